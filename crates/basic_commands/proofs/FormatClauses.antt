@@ -117,6 +117,7 @@ module _ {D : Type 0} (drive : Ghosts D) (old new : D) (asked : FormatWords) (gi
   six_is_none (inr (inl eight)) = absurd (cc eight)
   six_is_none (inr (inr none)) = absurd none
 
+  -- how a format came to its end, and what was told of it, are what `format` promises
   pub format_does : (status : ℕ) (log : Option Log) (end : FormatEnd) → IsFormatEnd drive asked gives old new end → Goes drive old new
       → EndsAs (of_format end) sink status log → DoesFormat asked gives drive old new sink status log
   format_does status log end is goes told =

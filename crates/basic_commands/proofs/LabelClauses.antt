@@ -74,6 +74,7 @@ all_done drive (labelled found) c l is held has still = inl refl
 all_done drive (unlabelled e) c l is held has still =
     mount_done c l drive.before drive.now e (of_some drive.held (λ c. Fails c e) c held is.0) is.1 has still
 
+-- how a look at the labels ended, and what was told of it, are what `label` promises
 pub label_does : {D : Type 0} (drive : Ghosts D) (old new : D) (sink : Written) (status : ℕ) (log : Option Log) (end : LabelEnd)
     → IsLabelEnd (looked drive old new) end → Looks drive (12 * drive.MOST) old new → EndsAs (of_label end) sink status log → DoesLabel drive old new sink status log
 label_does drive old new sink status log end is looks told =
@@ -107,6 +108,7 @@ label_found drive old mid new sink status log found same none is looks (inl told
 label_found drive old mid new sink status log found same none is looks (inr told) = subst (λ d. DoesLabel drive old d sink status log) (sym same)
     (label_does drive old mid sink status log (unlabelled errors.NoMemory) (no_memory drive old mid) looks (none, told))
 
+-- of a cartridge that isn't read, or where memory fails, `label` tells what it promises
 pub label_unread : {D : Type 0} (drive : Ghosts D) (old mid new : D) (sink : Written) (status : ℕ) (log : Option Log) (e : MountErr)
     → new ≡ mid → log ≡ None → ((c : Cartridge) → drive.held old ≡ Some c → Fails c e) → AreCounts (drive.faults old) (drive.faults mid) e → Looks drive (12 * drive.MOST) old mid
     → (wanted : ℕ) → wanted ≡ mount_status e → IsTold wanted (mount_text e) sink status ⊎ IsTold 7 (codes "memory\n") sink status → DoesLabel drive old new sink status log

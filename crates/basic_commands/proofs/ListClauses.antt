@@ -81,6 +81,7 @@ all_done drive (cut_short l count) c is held found still = inr (inl refl)
 all_done drive (unlisted e) c is held found still =
     found_done c drive.before drive.now e (of_some drive.held (λ c. Blames e c) c held is.0) is.1 found still
 
+-- how a listing came to its end, and what was told of it, are what `list` promises
 pub list_does : {D : Type 0} (drive : Ghosts D) (old new : D) (sink : Written) (status : ℕ) (log : Option Log) (end : ListEnd)
     → IsListEnd (looked drive old new) end → Looks drive (mount_most (drive.limits old) * drive.MOST) old new
     → EndsAs (of_list end) sink status log → DoesList drive old new sink status log
@@ -110,6 +111,7 @@ of_told : (held : Option Cartridge) (found : FoundTree) (sink : Written) (status
 of_told None found sink status is told = (listing_of whole found, tt, told whole)
 of_told (Some c) found sink status is told = (listing_of (tape_of c) found, is c refl, told (tape_of c))
 
+-- a tree that was found and told is what `list` promises
 pub found_listed : {D : Type 0} (drive : Ghosts D) (old new : D) (sink : Written) (status wanted : ℕ) (found : FoundTree)
     → ((c : Cartridge) → drive.held old ≡ Some c → IsListingOf c (listing_of (tape_of c) found))
     → status ≡ wanted → ((tape : Tape) → IsListingTold (listing_of tape found) sink wanted)
@@ -159,6 +161,7 @@ pub part_told : (sink : Written) (mid : Option (List ℕ)) (found : FoundTree)
 part_told sink mid found lines memory tape =
     inr ((lines tape).0, inl (refl, appends_more sink.old mid sink.new (first_lines (lines tape).0 (plain_of tape found.tree)) (codes "memory\n") (lines tape).1 memory))
 
+-- where memory is refused and then the sink fails, whole lines and a front of the rest are told
 pub part_failed : (sink : Written) (mid : Option (List ℕ)) (faults : ℕ) (found : FoundTree) → sink.before ≤ faults → Rose faults sink.now
     → ((tape : Tape) → (count : ℕ) × Appends sink.old mid (first_lines count (plain_of tape found.tree))) → AppendsFront mid sink.new (codes "memory\n")
     → (tape : Tape) → IsListingTold (listing_of tape found) sink 6
@@ -172,6 +175,7 @@ part_failed sink mid faults found later rose lines memory tape =
       ),
     )
 
+-- where memory is refused, whole lines from the front of the listing were written
 pub lines_of : (found : FoundTree) (old mid : Option (List ℕ)) (e : ListErr) → e ≡ list_errors.NoMemory
     → ((tape : Tape) → IsCutShort e (listing_text found.generation found.spot (plain_of tape found.tree)) (plain_of tape found.tree) old mid)
     → (tape : Tape) → (count : ℕ) × Appends old mid (first_lines count (plain_of tape found.tree))

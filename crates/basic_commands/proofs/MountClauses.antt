@@ -29,12 +29,14 @@ mount_known (errors.BadExtent uid) = inl refl
 mount_known (errors.Drive counts) = inr (inl refl)
 mount_known errors.NoMemory = inr (inr (inl refl))
 
+-- the statuses of a cartridge that isn't read are among all those of a command
 pub among_all : (n : ℕ) → IsOneOf n (3 ∷ 4 ∷ 7 ∷ []) → IsOneOf n (0 ∷ 3 ∷ 4 ∷ 6 ∷ 7 ∷ [])
 among_all n (inl three) = inr (inl three)
 among_all n (inr (inl four)) = inr (inr (inl four))
 among_all n (inr (inr (inl seven))) = inr (inr (inr (inr (inl seven))))
 among_all n (inr (inr (inr none))) = absurd none
 
+-- the statuses of a cartridge that isn't read are among those of a refusal
 pub among_refused : (n : ℕ) → IsOneOf n (3 ∷ 4 ∷ 7 ∷ []) → IsOneOf n (3 ∷ 4 ∷ 6 ∷ 7 ∷ [])
 among_refused n (inl three) = inl three
 among_refused n (inr (inl four)) = inr (inl four)
@@ -54,6 +56,7 @@ mount_isnt e n = isnt (mount_status e) n (mount_known e)
 abbrev told_counts : (before after : ℕ) → List ℕ
 told_counts before after = mount_text (errors.Drive (record { before = before; after = after }))
 
+-- where a mount ends with status 4, the fault of the drive is printed
 pub drive_told : (e : MountErr) (before now : ℕ) (old new : Option (List ℕ)) → AreCounts before now e → (mount_status e ≡ 4) × Appends old new (mount_text e)
     → IsDriveFaultPrinted before now old new
 drive_told (errors.Vol1 part) before now old new counts told = absurd (cc told.0)
@@ -71,6 +74,7 @@ drive_told (errors.Drive said) before now old new counts told = (
 )
 drive_told errors.NoMemory before now old new counts told = absurd (cc told.0)
 
+-- where a mount ends with status 7, the want of memory is printed
 pub memory_told : (e : MountErr) (old new : Option (List ℕ)) → (mount_status e ≡ 7) × Appends old new (mount_text e) → Appends old new (codes "memory\n")
 memory_told (errors.Vol1 part) old new told = absurd (cc told.0)
 memory_told (errors.Label part) old new told = absurd (cc told.0)

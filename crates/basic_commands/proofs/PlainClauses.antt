@@ -92,6 +92,7 @@ memory_is (plains.Script refusal) old new told = absurd (cc told.0)
 memory_is (plains.Source counts) old new told = absurd (cc told.0)
 memory_is (plains.NoMemory l) old new told = told.1
 
+-- how a plain run came to its end, and what was told of it, are what `plain` promises
 pub plain_does : {D : Type 0} (at : Option Moment) (gives : Gives) (source : Taken) (sink : Written) (old new : D) (status : ℕ) (log : Option Log) (end : PlainEnd)
     → new ≡ old → IsPlainEnd source gives at end → EndsAs (of_plain end) sink status log → DoesPlain at gives source sink old new status log
 plain_does at gives source sink old new status log end same is told =

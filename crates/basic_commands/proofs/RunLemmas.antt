@@ -47,6 +47,7 @@ moments_more at gives history p so_far here place q found = ⊎_elim
     subst (λ x. IsMoment at gives (place + 1) x.at) same (subst (λ n. IsMoment at gives (n + 1) p.at) (sym last) here))
     (cases_lt place (length history))
 
+-- before the first line a plain run has the empty tree, no history and no replies
 pub run_begins : (script : List ScriptLine) (at : Option Moment) (gives now : Gives) (first : Moment) (tree : Tree) (history : List Placed) (answered : List Reply)
     → IsMoment at gives 0 first → (at ≡ None → (n : ℕ) (m : Moment) → now n m → gives (n + 1) m)
     → tree ≡ empty_tree first → history ≡ [] → answered ≡ [] → IsRunSoFar script 0 at gives now tree history answered
@@ -62,6 +63,7 @@ run_begins script at gives now first tree history answered begins later is none 
   replies = record { count = refl; each = λ place p reply at_p at_reply. cc };
 }
 
+-- one more line with its placement and reply carries a plain run on
 pub run_goes_on : (script : List ScriptLine) (k : ℕ) (at : Option Moment) (gives now next : Gives) (tree left : Tree) (history longer : List Placed) (answered more : List Reply) (line : ScriptLine) (p : Placed) (reply : Reply)
     → IsRunSoFar script k at gives now tree history answered
     → slice_get script k ≡ Some line → p.who ≡ line.who → p.nth ≡ length (calls_of (take k script) line.who)
@@ -92,6 +94,7 @@ run_goes_on script k at gives now next tree left history longer answered more li
           (subst (λ t. IsReply p.fate t line.call reply) so_far.tree_is answers);
     }
 
+-- once every line is done, the log is that of a plain run
 pub run_ends : (script : List ScriptLine) (k : ℕ) (at : Option Moment) (gives now : Gives) (tree : Tree) (history : List Placed) (answered : List Reply) (log : Log)
     → IsRunSoFar script k at gives now tree history answered → length script ≤ k → log.history ≡ history → log.replies ≡ answered → log.acks ≡ [] → log.events ≡ []
     → IsPlainRun at gives script log

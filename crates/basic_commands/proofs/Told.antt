@@ -8,10 +8,12 @@ use Rattle.tape_types.specs.Counts.{Rose}
 use Rattle.basic_commands.specs.Outcomes.{IsTold}
 use Rattle.basic_commands.specs.Runs.{IsOneOf, Written}
 
+-- what holds of whatever is there holds if something is there
 pub if_some : {A : Type 0} (o : Option A) (P : A → Type 0) → ((x : A) → o ≡ Some x → P x) → IfSome o P
 if_some None P f = tt
 if_some (Some x) P f = f x refl
 
+-- what holds if something is there holds of what is there
 pub of_some : {A : Type 0} (o : Option A) (P : A → Type 0) (x : A) → o ≡ Some x → IfSome o P → P x
 of_some o P x is holds = subst (λ h. IfSome h P) is holds
 
@@ -27,6 +29,7 @@ not_later : (a b : Bool) → (a || b) ≡ false → b ≡ false
 not_later true b none = absurd (cc none)
 not_later false b none = none
 
+-- a number that isn't found among others is none of them
 pub none_of : (n : ℕ) (xs : List ℕ) → list_any (λ x. n == x) xs ≡ false → IsOneOf n xs → ⊥
 none_of n [] none one = one
 none_of n (x ∷ xs) none (inl same) = not_first (n == x) (list_any (λ y. n == y) xs) none (is_itself n x same)
@@ -44,6 +47,7 @@ pub by_text : (n wanted : ℕ) (text : List ℕ) (sink : Written) (status : ℕ)
 by_text n wanted text sink status (inl told) other is = (sym told.0 ∙ is, told.1)
 by_text n wanted text sink status (inr failed) other is = absurd (other (sym failed.0 ∙ is))
 
+-- only where the sink failed does another wanted status become 6
 pub by_six : (wanted : ℕ) (text : List ℕ) (sink : Written) (status : ℕ)
     → IsTold wanted text sink status → (wanted ≡ 6 → ⊥) → status ≡ 6 → Rose sink.before sink.now
 by_six wanted text sink status (inl told) other six = absurd (other (sym told.0 ∙ six))

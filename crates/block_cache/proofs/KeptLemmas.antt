@@ -71,6 +71,7 @@ module _ (place : Place) where
   Used cached None = (used cached place ≡ cached) × (others place cached ≡ cached)
   Used cached (Some block) = (used cached place ≡ block ∷ others place cached) × (block.0 ≡ place)
 
+  -- a use of a place finds the block that is kept of it, and brings it to the front
   pub used_is : (cached : List Kept) → IsDistinct same_place (keys_of cached) → (o : Option Kept)
       → lookup_entry (same_place place) cached ≡ o → Used cached o
   used_is cached once None e =

@@ -94,6 +94,7 @@ block_stays cached place bytes kept =
       few = omega (arith, long);
     }
 
+-- each use and each block that is kept leave a cache as it may be
 pub caches_stay : CachesStay
 unfolding IsDistinct
 caches_stay = record {
@@ -183,6 +184,7 @@ used_finds cached place at = by (same_place at place) refl
         rw same (here_found cached (others place cached) place (others_apart place cached))
     by false is = other_found cached (others place cached) place at is ∙ others_found cached place at is
 
+-- a use changes only the order of the blocks that are kept
 pub uses_reorder : UsesReorder
 uses_reorder = record {
   same = λ cached place block. (used_had cached place block, used_has cached place block);
@@ -212,6 +214,7 @@ room_left cached place at bytes room apart =
     ∙ ap (λ b. cond b (Some bytes) (bytes_at (others place cached) at)) back
     ∙ others_found cached place at back
 
+-- a block that was just kept is found
 pub keeps_find : KeepsFind
 keeps_find = record {
   finds = kept_found;

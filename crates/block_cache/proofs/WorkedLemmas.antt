@@ -25,5 +25,6 @@ unfolding IsDistinct
 run_distinct from zero = tt
 run_distinct from (suc count) = (later_apart from (from + 1) count (omega arith), run_distinct (from + 1) count)
 
+-- the worked cache that is full is one that may be
 pub full_is : AreKept full
 full_is = record { once = run_distinct 0 64; few = omega arith }

@@ -72,6 +72,7 @@ module _ (held : Files) (es : List DoneCommand) (count count2 : ℕ) (numbered :
     abbrev now_es : List DoneCommand
     now_es = record { number = count; act = act } ∷ es
 
+    -- what a crash may leave after an act is what it left before, or the act's own step
     pub acts : ((image : Files) → Leaves new now_es image → (before : Files) × Leaves (undo act new) es before × step before image)
         → Crashes step count (Leaves held es) (Leaves new now_es) (LeftSince count held es) (LeftSince count2 new now_es)
     acts within =

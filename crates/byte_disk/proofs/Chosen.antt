@@ -124,6 +124,7 @@ pub shortest_le : (held : List ℕ) (ws : List Change) → AreKept held ws → s
 shortest_le held [] kept = omega arith
 shortest_le held (w ∷ ws) kept = omega (arith, shortest_le (unwritten w held) ws kept.1, kept.0.any.no_shorter)
 
+-- files are no longer than the longest that a crash may leave
 pub length_le : (held : List ℕ) (ws : List Change) → AreKept held ws → length held ≤ longest held ws
 length_le held [] kept = omega arith
 length_le held (w ∷ ws) kept = omega (arith, length_le (unwritten w held) ws kept.1, kept.0.any.no_longer)
@@ -139,6 +140,7 @@ covered held (w ∷ ws) kept i settled lt = ⊎_elim
     (outside_of w ws i settled))
     (cases_lt i (longest (unwritten w held) ws))
 
+-- a place is in a range of a write since the last sync, or it is not
 pub pending_or : (ws : List Change) (i : ℕ) → IsPending ws i ⊎ (¬ (IsPending ws i))
 pending_or [] i = inr (λ none. none)
 pending_or (w ∷ ws) i = ⊎_elim
@@ -163,12 +165,15 @@ module _ (held : List ℕ) (ws : List Change) (kept : AreKept held ws) (choice :
   base_length : length base ≡ size
   base_length = omega (arith, length-take size (held ++ drop (length held) choice), length-append held (drop (length held) choice), length-drop (length held) choice, shortest_le held ws kept)
 
+  -- an image by choice has the length that the choice gives it
   pub image_length : length (image_of held ws choice) ≡ size
   image_length = chosen_length ws choice base ∙ base_length
 
+  -- in a range of an unsynced write the image has the chosen bytes
   pub image_pending : (i : ℕ) → IsPending ws i → i < length choice → i < size → get_or (image_of held ws choice) i 0 ≡ get_or choice i 0
   image_pending i pending in_choice lt = chosen_pending ws choice base i pending in_choice (omega (arith, lt, base_length))
 
+  -- outside of unsynced writes the image has the bytes that read
   pub image_settled : (i : ℕ) → ¬ (IsPending ws i) → i < size → get_or (image_of held ws choice) i 0 ≡ get_or held i 0
   image_settled i settled lt =
       let there : i < shortest held ws = covered held ws kept i settled (omega (arith, lt)) in

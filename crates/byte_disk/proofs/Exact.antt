@@ -95,6 +95,7 @@ module _ (held : Files) (es : List DoneCommand) (kept : IsRecordOf held es) (ima
   kept_cm : AreKept held.cm (pending Cm es)
   kept_cm = record_kept Cm held es kept
 
+  -- what a crash may leave, told step by step, holds place by place
   pub leaves_are : Leaves held es image → AreLeft held es image
   leaves_are left = record {
     ip = left_is held.ip (pending Ip es) kept_ip image.ip left.ip;
@@ -102,6 +103,7 @@ module _ (held : Files) (es : List DoneCommand) (kept : IsRecordOf held es) (ima
     cm = left_is held.cm (pending Cm es) kept_cm image.cm left.cm;
   }
 
+  -- what holds place by place, a crash may leave
   pub are_leaves : AreLeft held es image → Leaves held es image
   are_leaves left = record {
     ip = is_left held.ip (pending Ip es) kept_ip image.ip left.ip;
@@ -118,6 +120,7 @@ module _ (held : Files) (es : List DoneCommand) (kept : IsRecordOf held es) (ima
         ∙ ap (λ (l : List ℕ). record { ip = image_of held.ip (pending Ip es) image.ip; dp = image_of held.dp (pending Dp es) image.dp; cm = l }) (left_chosen held.cm (pending Cm es) kept_cm image.cm left.cm),
   )
 
+  -- what a crash may leave, some choice gives
   pub leaves_give : Leaves held es image → Gives held es image
   leaves_give left = left_gives (leaves_are left)
 
@@ -129,6 +132,7 @@ choice_left held es kept choice are = are_leaves held es kept (crash_image held 
   cm = image_left held.cm (pending Cm es) (record_kept Cm held es kept) choice.cm are.cm;
 })
 
+-- what a choice gives, a crash may leave
 pub give_leaves : (held : Files) (es : List DoneCommand) → IsRecordOf held es → (image : Files) → Gives held es image → Leaves held es image
 give_leaves held es kept image (choice, are, is) =
     subst (λ (d : Files). Leaves held es d) (sym is) (choice_left held es kept choice are)

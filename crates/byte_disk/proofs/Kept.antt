@@ -17,6 +17,7 @@ numbered_later : (count count2 : ℕ) (es : List DoneCommand) → count2 ≡ min
 numbered_later count count2 [] is n = tt
 numbered_later count count2 (e ∷ es) is n = ((λ lt. omega (arith, n.0 (omega arith))), numbered_later count count2 es is n.1)
 
+-- a sound record is so with one command more
 pub sound_later : (count count2 : ℕ) (held : Files) (es : List DoneCommand) → count2 ≡ min (count + 1) (2 ^ 64 - 1) → IsSound count held es → IsSound count2 held es
 sound_later count count2 held es is sound = record { numbers = numbered_later count count2 es is sound.numbers; kept = sound.kept }
 
@@ -42,6 +43,7 @@ module _ (at count : ℕ) (bytes : List ℕ) (few : length bytes ≤ count) (are
     subst (λ (l : List ℕ). IsRecordOf (record { ip = d.ip; dp = d.dp; cm = l }) es) (sym (put_back at bytes d.cm within count)) kept,
   )
 
+  -- a write that is put into the record leaves it sound
   pub put_sound : (file : File) (number commands : ℕ) (d : Files) (es : List DoneCommand) → at ≤ length (bytes_of file d)
       → (commands < 2 ^ 64 - 1 → number < commands) → IsSound commands d es
       → IsSound commands (with_bytes file (written at bytes (bytes_of file d)) d)

@@ -68,12 +68,14 @@ module _ (T E : Type 0) (step : Files → Files → Type 0) (old : View) (sane :
       crash = acts old.held old.acts old.commands _ sane.sound.numbers (omega arith) step held act undone within;
     }
 
+-- a command that only looks keeps what the trait asks of it
 pub looked_meets : (T E : Type 0) (r : Result T E) (old new : View) → IsSane old → Looked r old new → Meets r NothingNew old new
 looked_meets T E (Ok t) old new sane ran =
     subst (λ (v : View). Meets {T = T} {E = E} (Ok t) NothingNew old v) (sym ran.1) (meets_still T E NothingNew old sane (λ image. refl) t)
 looked_meets T E (Err e) old new sane ran =
     subst (λ (v : View). Meets {T = T} {E = E} (Err e) NothingNew old v) (sym ran.1) (meets_failed T E NothingNew old sane (λ image. refl) e)
 
+-- a command that only looks leaves the files as they were
 pub looked_held : (T E : Type 0) (r : Result T E) (old new : View) → Looked r old new → new.held ≡ old.held
 looked_held T E (Ok t) old new ran = ap (λ (v : View). v.held) ran.1
 looked_held T E (Err e) old new ran = ap (λ (v : View). v.held) ran.1
@@ -91,6 +93,7 @@ module _ (T E : Type 0) (file : File) (at : ℕ) (bytes : List ℕ) (old new : V
   abbrev held_of : List ℕ → Files
   held_of xs = with_bytes file (written at xs (bytes_of file old.held)) old.held
 
+  -- a write keeps what the trait asks of it
   pub write_meets : (r : Result T E) → IsSane old → RanWrite r file at bytes old new → Meets r (WithinWrite file at (length bytes)) old new
   write_meets (Ok t) sane ran =
       subst (λ (v : View). Meets {T = T} {E = E} (Ok t) step old v) (sym ran.1)
@@ -129,6 +132,7 @@ module _ (T E : Type 0) (file : File) (at : ℕ) (bytes : List ℕ) (old new : V
       subst (λ (v : View). IsWritten file at bytes old.held v.held) (sym ran.1) (written_is file bytes old.held)
   told_of (Err e) are ran = broken_of (Err e) are ran
 
+  -- a write leaves the files as the trait says
   pub write_told : (r : Result T E) → AreBytes bytes → AreFiles old.held → RanWrite r file at bytes old new → (d : Files) → told old.held ≡ Some d
       → (e : Files) × (told new.held ≡ Some e) × AfterWrite r file at bytes d e
   write_told r are files ran d is =
@@ -136,6 +140,7 @@ module _ (T E : Type 0) (file : File) (at : ℕ) (bytes : List ℕ) (old new : V
       (new.held, are_told new.held after, subst (λ (x : Files). AfterWrite r file at bytes x new.held) (told_only old.held d is) (told_of r are ran))
 
 module _ (T E : Type 0) (file : File) (old new : View) where
+  -- a sync keeps what the trait asks of it
   pub sync_meets : (r : Result T E) → IsSane old → RanSync r file old new → Meets r NothingNew old new
   sync_meets (Ok t) sane ran =
       subst (λ (v : View). Meets {T = T} {E = E} (Ok t) NothingNew old v) (sym ran.1)
@@ -146,11 +151,13 @@ module _ (T E : Type 0) (file : File) (old new : View) where
   sync_meets (Err e) sane (inr ran) =
       subst (λ (v : View). Meets {T = T} {E = E} (Err e) NothingNew old v) (sym ran.1) (meets_starved T E NothingNew old sane (λ image. refl) e)
 
+  -- a sync leaves the files as they read
   pub sync_held : (r : Result T E) → RanSync r file old new → new.held ≡ old.held
   sync_held (Ok t) ran = ap (λ (v : View). v.held) ran.1
   sync_held (Err e) (inl ran) = ap (λ (v : View). v.held) ran.1
   sync_held (Err e) (inr ran) = ap (λ (v : View). v.held) ran.1
 
+  -- after a sync that succeeded the file is sure
   pub sync_sure : (r : Result T E) → RanSync r file old new → OnOk r (IsFileSure file (told new.held) (Leaves new.held new.acts))
   sync_sure (Ok t) ran =
       subst (λ (v : View). IsFileSure file (told v.held) (Leaves v.held v.acts)) (sym ran.1)

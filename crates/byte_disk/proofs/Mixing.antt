@@ -3,6 +3,7 @@ use Rattle.std.proofs.Common.{ℕ, suc, ◌+◌, ◌-◌, ◌<◌, ◌≡◌, Li
 use Rattle.std.proofs.lemmas.List.{append_assoc}
 use Rattle.byte_disk.specs.Mixed.{stir, mixed_byte, mixed_bytes}
 
+-- one byte more of those by a seed leaves the others to come
 pub mixed_step : (items items2 total held old : List ℕ) (s s2 place size b : ℕ) → place < size → items2 ≡ items ++ b ∷ [] → s2 ≡ stir s
     → b ≡ mixed_byte s2 place held old → items ++ mixed_bytes s place (size - place) held old ≡ total
     → items2 ++ mixed_bytes s2 (place + 1) (size - (place + 1)) held old ≡ total

@@ -58,11 +58,13 @@ gave_within count held es t image numbered kept gave = (
       (within_at gave.newer gave.entry gave.older held t image (subst (IsRecordOf held) gave.place kept) gave.began gave.left),
 )
 
+-- what a crash may have left since a command is what choices give or gave
 pub since_gave : (count : ℕ) (held : Files) (es : List DoneCommand) (t : ℕ) (image : Files) → IsRecordOf held es
     → LeftSince count held es t image → GaveSince held es t image
 since_gave count held es t image kept (inl now) = inl (leaves_give held es kept image now)
 since_gave count held es t image kept (inr past) = inr (within_gave held es t image kept past.1)
 
+-- what choices give or gave is what a crash may have left since a command
 pub gave_since : (count : ℕ) (held : Files) (es : List DoneCommand) (t : ℕ) (image : Files) → Numbered count es → IsRecordOf held es
     → GaveSince held es t image → LeftSince count held es t image
 gave_since count held es t image numbered kept (inl now) = inl (give_leaves held es kept image now)

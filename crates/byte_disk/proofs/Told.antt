@@ -65,6 +65,7 @@ none_by : (t : Bool) (d : Files) → t ≡ true → (if t then Some d else None)
 none_by true d are is = cc is
 none_by false d are is = cc are
 
+-- files of bytes are told
 pub told_some : (d : Files) → AreFiles d → told d ≡ None → ⊥
 told_some d are is = none_by (are_files d) d (by_files d are) is
 
@@ -74,6 +75,7 @@ pub value_told : {T E : Type 0} (P : T → Files → Type 0) (r : Result T E) (d
 value_told P (Ok x) d is = λ e told_is. subst (λ (f : Files). P x f) (told_only d e told_is) is
 value_told P (Err why) d is = tt
 
+-- what holds of the files holds of them as they are told
 pub done_told : {T E : Type 0} (P : Files → Type 0) (r : Result T E) (d : Files) → OnOk r (P d)
     → (e : Files) → told d ≡ Some e → OnOk r (P e)
 done_told P r d is e told_is = subst (λ (f : Files). OnOk r (P f)) (told_only d e told_is) is
@@ -83,6 +85,7 @@ sure_by : {Y : Type 0} (part : Files → Y) (t : Bool) (d : Files) (leaves : Fil
 sure_by part true d leaves sure = sure
 sure_by part false d leaves sure = tt
 
+-- a part that every crash leaves as it reads is sure
 pub sure_told : {Y : Type 0} (part : Files → Y) (d : Files) (leaves : Files → Type 0)
     → ((image : Files) → leaves image → part image ≡ part d) → IsSureOf part (told d) leaves
 sure_told part d leaves sure = sure_by part (are_files d) d leaves sure

@@ -15,6 +15,7 @@ use Rattle.byte_disk.specs.Walks.{is_sync_of, undone_by, reach_by, chosen_by, Is
 last_entry : (acts : List DoneCommand) (i : ℕ) (d : DoneCommand) → i < length acts → reverse (take (i + 1) acts) ≡ get_or acts i d ∷ reverse (take i acts)
 last_entry acts i d lt = ap reverse (take_more acts i d lt) ∙ reverse-append (take i acts) (get_or acts i d ∷ [])
 
+-- the last act of those that are left is the newest
 pub newest_at : (acts : List DoneCommand) (left : ℕ) (d : DoneCommand) → 0 < left → left ≤ length acts
     → reverse (take left acts) ≡ get_or acts (left - 1) d ∷ reverse (take (left - 1) acts)
 newest_at acts left d some le =
@@ -26,6 +27,7 @@ module _ (file : File) (ws : List Change) where
   back_by true w bytes = refl
   back_by false w bytes = refl
 
+  -- a step back over an act, other than a sync, leads to the same bytes of the last sync
   pub back_step : (act : Act) (bytes : List ℕ) → is_sync_of file act ≡ false → original bytes (pending_after file act ws) ≡ original (undone_by file act bytes) ws
   back_step (Wrote other w) bytes is = back_by (is_same file other) w bytes
   back_step (Synced other) bytes is = rw is refl
@@ -35,6 +37,7 @@ module _ (file : File) (ws : List Change) where
   kept_by true w bytes kept = kept
   kept_by false w bytes kept = (tt, kept)
 
+  -- a step back over an act leaves bytes that the older writes have kept
   pub kept_step : (act : Act) (bytes : List ℕ) → is_sync_of file act ≡ false → AreKept bytes (pending_after file act ws)
       → IsKeptBy file act bytes × AreKept (undone_by file act bytes) ws
   kept_step (Wrote other w) bytes is kept = kept_by (is_same file other) w bytes kept
@@ -44,6 +47,7 @@ module _ (file : File) (ws : List Change) where
   choose_by true w choice bytes = refl
   choose_by false w choice bytes = refl
 
+  -- a step back over an act chooses its bytes, and then those of older acts
   pub choose_step : (act : Act) (choice bytes : List ℕ) → is_sync_of file act ≡ false
       → chosen (pending_after file act ws) choice bytes ≡ chosen ws choice (chosen_by file act choice bytes)
   choose_step (Wrote other w) choice bytes is = choose_by (is_same file other) w choice bytes
@@ -53,10 +57,12 @@ module _ (file : File) (ws : List Change) where
   reach_with true w n = omega arith
   reach_with false w n = refl
 
+  -- a step back over an act adds how far its range reaches
   pub reach_step : (act : Act) (n : ℕ) → is_sync_of file act ≡ false → max n (reach (pending_after file act ws)) ≡ max (reach_by file act n) (reach ws)
   reach_step (Wrote other w) n is = reach_with (is_same file other) w n
   reach_step (Synced other) n is = rw is refl
 
+  -- behind a sync no range reaches any further
   pub reach_stop : (act : Act) → is_sync_of file act ≡ true → reach (pending_after file act ws) ≡ 0
   reach_stop (Wrote other w) is = cc
   reach_stop (Synced other) is = rw is refl

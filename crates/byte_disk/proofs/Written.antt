@@ -16,20 +16,24 @@ module _ (at : ℕ) (bytes old : List ℕ) (within : at ≤ length old) where
   put : length (take at old ++ bytes) ≡ at + length bytes
   put = omega (arith, length-append (take at old) bytes, front)
 
+  -- how long a file is once bytes were put into it
   pub length_written : length (written at bytes old) ≡ max (length old) (at + length bytes)
   length_written = omega (arith, length-append (take at old ++ bytes) (drop end old), put, length-drop end old)
 
+  -- below its range a write leaves the bytes
   pub written_below : (i d : ℕ) → i < at → get_or (written at bytes old) i d ≡ get_or old i d
   written_below i d lt =
       get_or_append_left (take at old ++ bytes) (drop end old) d i (omega (arith, put))
       ∙ get_or_append_left (take at old) bytes d i (omega (arith, front))
       ∙ get_or-take at old i d lt
 
+  -- in its range a write leaves its own bytes
   pub written_inside : (i d : ℕ) → at ≤ i → i < at + length bytes → get_or (written at bytes old) i d ≡ get_or bytes (i - at) d
   written_inside i d le lt =
       get_or_append_left (take at old ++ bytes) (drop end old) d i (omega (arith, put))
       ∙ get_or-append_right (take at old) bytes at i d front le
 
+  -- above its range a write leaves the bytes
   pub written_above : (i d : ℕ) → at + length bytes ≤ i → get_or (written at bytes old) i d ≡ get_or old i d
   written_above i d le =
       let place : end + (i - end) ≡ i = omega (arith, le) in
@@ -37,6 +41,7 @@ module _ (at : ℕ) (bytes old : List ℕ) (within : at ≤ length old) where
       ∙ get_or-drop end old (i - end) d
       ∙ ap (λ (n : ℕ). get_or old n d) place
 
+-- bytes written over bytes leave bytes
 pub written_bytes : (at : ℕ) (bytes old : List ℕ) → AreBytes bytes → AreBytes old → AreBytes (written at bytes old)
 written_bytes at bytes old are_new are_old =
     All-append (λ (b : ℕ). b < 2 ^ 8) (take at old ++ bytes) (drop (at + length bytes) old)
@@ -93,6 +98,7 @@ module _ (at : ℕ) (bytes old : List ℕ) (within : at ≤ length old) where
     bytes = λ are_old. written_bytes at bytes old are are_old;
   }
 
+  -- what is kept of a write says what it may leave
   pub put_kept : (count : ℕ) → length bytes ≤ count → AreBytes bytes → at + count < 2 ^ 62 → IsKept (change_of at count bytes old) new
   put_kept count few are end = record {
     within = subst (λ (l : List ℕ). at ≤ length l) (sym (put_back count)) within;

@@ -47,6 +47,7 @@ given_in drive fixed = given_of fixed.script fixed.tree fixed.mounted (seen driv
 abbrev pub on_in : {D : Type 0} → Ghosts D → Fixed D → Parts D → Bool
 on_in drive fixed p = is_on (given_in drive fixed).mounted p.on (length p.listed.history)
 
+-- what stands at the end of the parts' history
 abbrev pub standing_in : {D : Type 0} → Ghosts D → Fixed D → Parts D → Standing
 standing_in drive fixed p = standing (given_in drive fixed) p.on p.listed.history (length p.listed.history)
 
@@ -54,6 +55,7 @@ standing_in drive fixed p = standing (given_in drive fixed) p.on p.listed.histor
 abbrev pub ask_in : {D : Type 0} → Ghosts D → Fixed D → Parts D → Call → Placed → Ask
 ask_in drive fixed p call placed = ask_of (given_in drive fixed) (standing_in drive fixed p) call placed.at
 
+-- the space behind a call that is placed next
 abbrev pub space_in : {D : Type 0} → Ghosts D → Fixed D → Parts D → Call → Placed → Space
 space_in drive fixed p call placed = space.after (rules (given_in drive fixed)) (on_in drive fixed p) (standing_in drive fixed p).space
     (ask_in drive fixed p call placed)
@@ -172,6 +174,7 @@ module _ {D : Type 0} (drive : Ghosts D) (fixed : Fixed D) (planned : Items) (ca
       subst (λ (rs : List Gathering). AreReading g new.on new.listed.history (with_ops asked planned) held_first new.stock.layout.ops
       (state new.trail) rs) (sym one.wants.reads) d
 
+  -- once a call is placed and its ops are admitted, the volume is tied
   pub tied_on : IsTied drive fixed (with_ops asked planned) new
   tied_on = record {
     limits = tied.limits;

@@ -16,6 +16,7 @@ use Rattle.order_laws.specs.Sides.{IsBrought, IsReplied}
 use Rattle.state_laws.specs.Stepping.{all_synced, replied, synced_events}
 use Rattle.call_laws.proofs.Splits.{flip}
 
+-- the reply that says that a sync is synced
 abbrev pub synced : Reply
 synced = the_replies.Answer the_answers.Synced
 
@@ -38,6 +39,7 @@ told_else (x ∷ told) zero (suc k) reply other = refl
 told_else (x ∷ told) (suc t) zero reply other = refl
 told_else (x ∷ told) (suc t) (suc k) reply other = told_else told t k reply (other_after k t other)
 
+-- a reply that comes leaves the count of places
 pub told_count : (told : List (Option Reply)) (t : ℕ) (reply : Reply) → length (replied t reply told) ≡ length told
 told_count told t reply = length-set told t (Some reply)
 
@@ -59,6 +61,7 @@ pub record Brings (st : State) (added : List Event) (told : List (Option Reply))
   pub gives : IsReplied st added t reply
   pub others : (k : ℕ) → (k == t) ≡ false → is_waiting (fold after st added) k ≡ is_waiting st k
 
+-- the one reply that came to a place is what the events bring
 pub one_brought : (st : State) (added : List Event) (told : List (Option Reply)) (t : ℕ) (reply : Reply)
     → AreWaiting st told → Brings st added told t reply
     → (k : ℕ) (came : Option Reply) → slice_get told k ≡ Some None → slice_get (replied t reply told) k ≡ Some came
@@ -74,6 +77,7 @@ one_brought st added told t reply are b k came was is = by (k == t) refl
         let none : None ≡ came = same_Some None came (sym was ∙ sym (told_else told t k reply other) ∙ is) in
         subst (IsBrought st added k) none (b.others k other ∙ are.none_yet k was)
 
+-- a reply that comes leaves those that are there
 pub one_kept : (st : State) (told : List (Option Reply)) (t : ℕ) (reply : Reply) → slice_get told t ≡ Some None
     → (k : ℕ) (was : Reply) → slice_get told k ≡ Some (Some was) → slice_get (replied t reply told) k ≡ Some (Some was)
 one_kept st told t reply waited k was is = by (k == t) refl
@@ -107,10 +111,12 @@ none_brought st added told are still k came was is =
 
 -- ---- syncs
 
+-- syncs that are answered leave the count of places
 pub all_count : (tickets : List ℕ) (told : List (Option Reply)) → length (all_synced tickets told) ≡ length told
 all_count [] told = refl
 all_count (t ∷ tickets) told = all_count tickets (replied t synced told) ∙ told_count told t synced
 
+-- where no sync is answered the replies stay
 pub synced_else : (tickets : List ℕ) (told : List (Option Reply)) (k : ℕ)
     → list_any (answers k) (synced_events tickets) ≡ false
     → slice_get (all_synced tickets told) k ≡ slice_get told k
@@ -119,6 +125,7 @@ synced_else (t ∷ tickets) told k none =
     let parts = or_parts (t == k) (list_any (answers k) (synced_events tickets)) none in
     synced_else tickets (replied t synced told) k parts.1 ∙ told_else told t k synced (flip t k parts.0)
 
+-- where a sync is answered its reply says so
 pub synced_here : (tickets : List ℕ) (told : List (Option Reply)) (k : ℕ) → k < length told
     → list_any (answers k) (synced_events tickets) ≡ true
     → slice_get (all_synced tickets told) k ≡ Some (Some synced)

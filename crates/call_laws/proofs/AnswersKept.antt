@@ -23,6 +23,7 @@ pub record KeepsTheReplies {D : Type 0} (old new : Parts D) (who : ℕ) (kinds :
   pub never : (k : ℕ) (reply : Reply) → fold after (phase who old.listed.marks) kinds ≡ waits k
       → slice_get new.listed.replies k ≡ Some (Some reply) → ⊥
 
+-- over a submission the answers of reads are kept until they are handed out
 pub answers_stay : {D : Type 0} (old new : Parts D) (who : ℕ) (kinds : List MarkKind) → KeepsTheReplies old new who kinds
     → HasAnswers old → HasAnswers new
 answers_stay old new who kinds keeps are = record {

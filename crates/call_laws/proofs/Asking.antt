@@ -31,24 +31,29 @@ use Rattle.state_laws.specs.Placing.{only_looks}
 
 -- ---- the events of ops
 
+-- what the events of some places queue is at these places
 pub queues_queued : (places : List Place) → filter_map queued (queues_at places) ≡ places
 queues_queued [] = refl
 queues_queued (p ∷ places) = ap (λ (l : List Place). p ∷ l) (queues_queued places)
 
+-- ops that are queued ask for no block
 pub queues_want_none : (places : List Place) → filter_map wanted (queues_at places) ≡ []
 queues_want_none [] = refl
 queues_want_none (p ∷ places) = queues_want_none places
 
+-- ops that are queued answer no sync
 pub queues_answer_none : (places : List Place) → filter_map synced_ticket (queues_at places) ≡ []
 queues_answer_none [] = refl
 queues_answer_none (p ∷ places) = queues_answer_none places
 
+-- ops that are queued answer nobody
 pub queues_unanswered : (here : ℕ) (places : List Place) → list_any (answers here) (queues_at places) ≡ false
 queues_unanswered here [] = refl
 queues_unanswered here (p ∷ places) = queues_unanswered here places
 
 -- ---- what is asked
 
+-- a call that never waits asks for no index
 pub no_index : (g : Given) (st : Standing) (call : Call) (at : Moment) → may_wait call ≡ false → AsksNoIndex (ask_of g st call at)
 no_index g st Sync at e = absurd (cc e)
 no_index g st call at e = of_other AsksNoIndex tt tt (λ wanted bytes. tt) g st call at refl
@@ -75,6 +80,7 @@ asks_none st before added cached next _ e none same = (none, same)
 is_done : (r : Option Refusal) → r ≡ None → answer_unless r the_answers.Done ≡ the_answers.Done
 is_done r free = ap (λ o. answer_unless o the_answers.Done) free
 
+-- a call that changes the tree and isn't refused is answered that it is done
 pub done_answer : (tree : Tree) (call : Call) → may_wait call ≡ false → only_looks call ≡ false → refusal_of tree call ≡ None
     → answer tree call ≡ the_answers.Done
 done_answer tree (Read path offset count) waits looks free = absurd (cc waits)
@@ -85,11 +91,13 @@ done_answer tree call waits looks free = is_done (refusal_of tree call) free
 
 -- ---- the last index stays before the end
 
+-- what stands before the end of the data partition does so with more ops
 pub still_before : (o : Option ℕ) (planned : Items) (asked : List Op) → IfSome o (λ pos. pos < length (planned Dp))
     → IfSome o (λ pos. pos < length (with_ops asked planned Dp))
 still_before None planned asked is = tt
 still_before (Some pos) planned asked is = omega (arith, is, length-append (planned Dp) (items_by Dp asked))
 
+-- the last index stands before the end behind a call that asks for none
 pub last_before : (v : Rules) (on : Bool) (s : Space) (ask : Ask) (planned : Items) (asked : List Op) → AsksNoIndex ask
     → IfSome s.last_dp (λ pos. pos < length (planned Dp)) → IfSome (space.after v on s ask).last_dp (λ pos. pos < length (with_ops asked planned Dp))
 last_before v on s nothing planned asked none is = still_before s.last_dp planned asked is

@@ -52,6 +52,7 @@ module _ {D : Type 0} (drive : Ghosts D) (fixed : Fixed D) where
 
 module _ {D : Type 0} (drive : Ghosts D)
     (counts_now : (d : D) (t : ℕ) (image : Cartridge) → t ≤ drive.commands d → drive.leaves d image → drive.left_since d t image) where
+  -- a volume that was mounted runs
   pub volumes_run : VolumesRun drive
   volumes_run fixed next p sessions range mount mounts fresh allowed =
       let b = beginnings_are_tied drive counts_now fixed next p sessions range mount mounts fresh in

@@ -43,6 +43,7 @@ met_at rs ticket place q true is =
 met_at rs ticket place q false is =
     ap (λ b. if b then true else met_in rs ticket q) is ∙ sym (met_else rs ticket place q is)
 
+-- the blocks that a read has met are those before and the one that was just read
 pub met_now : (rs : List Request) (ticket : ℕ) (place : Place)
     → with_place (met_in rs ticket) place ≡ met_in (left_for ticket place rs) ticket
 met_now rs ticket place = λ i q. (met_at rs ticket place q (same_place place q) refl) i

@@ -143,6 +143,7 @@ module _ {D : Type 0} (drive : Ghosts D) (fixed : Fixed D) (plan : Plan drive fi
   -- ---- a request
 
   module _ (ticket : ℕ) (place : Place) (r : IsOneRequest p.queue.waiting ticket place) where
+    -- the requests that wait are those before one, that one and those behind it
     pub asked_are : st.requests ≡ map request r.front ++ request r.one ∷ map request r.behind
     asked_are = sym tied.queue ∙ ap (map request) r.waiting_is ∙ map-append request r.front (r.one ∷ r.behind)
 
@@ -150,6 +151,7 @@ module _ {D : Type 0} (drive : Ghosts D) (fixed : Fixed D) (plan : Plan drive fi
     asked = all_mid (IsAsked planned p.stock.layout.ops p.reads) (map request r.front) (request r.one) (map request r.behind)
         (subst (Rattle.std.specs.Prelude.All (IsAsked planned p.stock.layout.ops p.reads)) asked_are tied.reads.asked)
 
+    -- a block that is asked for stands on tape
     pub stands : IsDoneAt planned p.stock.layout.ops place
     stands = subst (IsDoneAt planned p.stock.layout.ops) r.place_is asked.stands
 
@@ -167,6 +169,7 @@ module _ {D : Type 0} (drive : Ghosts D) (fixed : Fixed D) (plan : Plan drive fi
     near : place.pos < 2 ^ 63
     near = omega (arith, stands.below, tied.room place.part, least place.part (drive.limits fixed.first) tied.limits)
 
+    -- a place with a request has no reply yet
     pub unanswered : slice_get p.listed.replies ticket ≡ Some None
     unanswered = kept.order.orderly.waiting.waits ticket
         (or_left (list_any (λ (q : Request). q.ticket == ticket) st.requests) (list_any (λ (s : Waiter). s.ticket == ticket) st.syncs)
@@ -213,6 +216,7 @@ module _ {D : Type 0} (drive : Ghosts D) (fixed : Fixed D) (plan : Plan drive fi
       sync = sync_unanswered;
     }
 
+-- of a volume that is tied the next step can be made
 pub steps_can_be_made : {D : Type 0} (drive : Ghosts D) → StepsCanBeMade drive
 steps_can_be_made drive fixed plan planned next p kept tied allowed =
     can_step drive fixed plan planned next p kept tied allowed

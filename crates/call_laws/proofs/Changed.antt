@@ -144,6 +144,7 @@ module _ {D : Type 0} (drive : Ghosts D) (fixed : Fixed D) (plan : Plan drive fi
       ∙ ap (λ (l : List ℕ). old.trail.acks ++ map (λ ticket. record { place = ticket; command = drive.commands new.drive }) l)
       (sym (queues_answer_none (map place_of c.asked)))
 
+  -- a call that changes the tree shows all that is asked of it
   pub shown : Shown drive fixed plan planned before next who nth done c.asked old new
   shown = record {
     submits = record {

@@ -20,6 +20,7 @@ one_at_least ends.Wrote = omega arith
 one_at_least ends.Flushed = omega arith
 one_at_least (ends.Failed counts) = omega arith
 
+-- an op takes two commands at most
 pub two_at_most : (op : Op) → most_commands op ≤ 2
 two_at_most (Put place bytes) = omega arith
 two_at_most (Mark place) = omega arith
@@ -35,6 +36,7 @@ min_most before less more top now le h = omega (arith, le, h)
 times : (a b n : ℕ) → a ≤ b → a * n ≤ b * n
 times a b n le = mul-le-mul_right n le
 
+-- the numbers of commands and faults after a step are such as it counts
 pub step_counts : {D : Type 0} (drive : Ghosts D) (at : Place) (most : ℕ) (end : StepDone) (before now : D) (old new : View D) (added : List Event)
     → IsMade drive at most end before now → most ≤ 2 → steps added ≡ 1
     → StepCounts drive.MOST (seen drive before) (seen drive now) old new added

@@ -372,5 +372,6 @@ module _ {D : Type 0} (drive : Ghosts D) (fixed : Fixed D) (plan : Plan drive fi
         (subst (λ (l : List Op). All (IsKeptRightly planned l (drive.held fixed.first)) old.cached) did.first tied.cached);
   }
 
+  -- a step that did the first op shows all that is asked, and leaves the volume tied
   pub does : Stepped drive fixed before (view_of fixed next_at new) added × IsTied drive fixed planned new
   does = subst (λ (p : Parts D). Stepped drive fixed before (view_of fixed next_at p) added × IsTied drive fixed planned p) now_is (stepped, tied_on)

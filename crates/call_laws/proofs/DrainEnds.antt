@@ -182,6 +182,7 @@ module _ {D : Type 0} (drive : Ghosts D) (fixed : Fixed D) (planned : Items) (be
     driven_fault = driven_on drive v u w t.tape.drive t.tape.on
         (ap (λ (k : Stocked). k.layout.ops) t.tape.stock) t.tape.cached made went.came.driven
 
+    -- a drain that ends with its fault adds what is promised of it
     pub fault_ends : Ends drive fixed planned before after who (the_drained.Fault counts) old new
     fault_ends = record {
       once = fault_once;
@@ -278,6 +279,7 @@ module _ {D : Type 0} (drive : Ghosts D) (fixed : Fixed D) (planned : Items) (be
     driven_rest : AreDriven drive v resting made
     driven_rest = driven_on drive v u resting r.tape.drive r.tape.on ops_are r.tape.cached made went.came.driven
 
+    -- a drain that ends because there is room adds what is promised of it
     pub rest_ends : Ends drive fixed planned before after who the_drained.Room old new
     rest_ends = record {
       once = rest_once;
@@ -337,6 +339,7 @@ module _ {D : Type 0} (drive : Ghosts D) (fixed : Fixed D) (planned : Items) (be
     driven_more : AreDriven drive v going_on made
     driven_more = driven_on drive v u going_on refl refl refl refl made went.came.driven
 
+    -- a drain that goes on adds what is promised of it
     pub more_ends : Ends drive fixed planned before after who the_drained.More old mid
     more_ends = record {
       once = more_once;

@@ -32,6 +32,7 @@ use Rattle.call_laws.proofs.Driven.{steps_driven}
 use Rattle.call_laws.proofs.TurnAnswers.{answers_stay}
 use Rattle.call_laws.proofs.TurnSteps.{Came, came_by, came_none}
 
+-- what a turn of a drain made before it ends: nothing, or a step
 pub record Went {D : Type 0} (drive : Ghosts D) (fixed : Fixed D) (planned : Items) (next : Option Moment) (who : ℕ)
     (old mid : Parts D) (made : List Event) : Type 0 where
   pub came : Came drive fixed (view_of fixed next old) (view_of fixed next mid) made
@@ -48,6 +49,7 @@ standing_count standing events same = sym (ap (λ (l : List waiting.Op). length 
 
 -- ---- nothing
 
+-- where nothing was made, a drain's turn went so
 pub went_nothing : {D : Type 0} (drive : Ghosts D) (fixed : Fixed D) (plan : Plan drive fixed) (planned : Items) (next : Option Moment) (who : ℕ) (old : Parts D)
     → IsKept drive fixed plan (view_of fixed next old) → drive.commands old.drive ≤ 2 ^ 64 - 1 → IsTied drive fixed planned old → HasAnswers old
     → Went drive fixed planned next who old old []
@@ -80,6 +82,7 @@ module _ {D : Type 0} (drive : Ghosts D) (who : ℕ) (old new : Parts D) (none :
   untold_by all (reads ticket place got block did) = none_came did.only.kept
   untold_by all (misses ticket place counts did) = none_came did.only.kept
 
+-- where a step was made, a drain's turn went so
 pub went_step : {D : Type 0} (drive : Ghosts D) (fixed : Fixed D) (planned : Items) (next : Option Moment) (who : ℕ) (old new : Parts D) (added : List Event)
     → IsInOrder drive (view_of fixed next old) → HasAnswers old → IsFull who old → StepsOn drive added old new
     → Stepped drive fixed (view_of fixed next old) (view_of fixed next new) added → IsTied drive fixed planned new
@@ -123,6 +126,7 @@ module _ {D : Type 0} (drive : Ghosts D) (v u w : View D) (drive_is : w.drive �
     cached = s.cached;
   }
 
+  -- one step stays one for a view with the same drive, ops, blocks that are kept and placement
   pub step_on : (most : ℕ) (made : List Event) → StepsOnce most (seen drive v.drive) (seen drive u.drive) v u made
       → StepsOnce most (seen drive v.drive) (seen drive w.drive) v w made
   step_on most made s = subst (λ (x : View D). StepsOnce most (seen drive v.drive) (seen drive x.drive) v x made) moved_is (step_at most made s)
@@ -139,5 +143,6 @@ module _ {D : Type 0} (drive : Ghosts D) (v u w : View D) (drive_is : w.drive �
   driven_at (Worked place None ∷ answers) d = d
   driven_at (Worked place (Some told) ∷ answers) d = d
 
+  -- what the head did stays so for a view with the same drive and ops
   pub driven_on : (made : List Event) → AreDriven drive v u made → AreDriven drive v w made
   driven_on made d = subst (λ (x : View D). AreDriven drive v x made) moved_is (driven_at made d)

@@ -31,6 +31,7 @@ module _ {D : Type 0} (drive : Ghosts D) (fixed : Fixed D) (planned : Items) whe
     resting : state new.trail ≡ next_state (state old.trail) (Rests who)
     resting = state_after old.trail.events new.trail.events (Rests who ∷ []) r.events
 
+    -- a volume stays tied where a session rests
     pub tied_resting : IsTied drive fixed planned new
     tied_resting = without_ops new (tied_still drive fixed planned old new tied (record {
       drive_is = r.tape.drive;
@@ -61,6 +62,7 @@ module _ {D : Type 0} (drive : Ghosts D) (fixed : Fixed D) (planned : Items) whe
     same_state : state new.trail ≡ state old.trail
     same_state = ap after_all t.events
 
+    -- a volume stays tied where a write is placed void with its drain's fault
     pub tied_faulted : IsTied drive fixed planned new
     tied_faulted = without_ops new (tied_still drive fixed planned old new tied (record {
       drive_is = t.tape.drive;

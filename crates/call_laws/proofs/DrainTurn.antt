@@ -83,6 +83,7 @@ module _ {D : Type 0} (drive : Ghosts D)
         let shown = steps_show drive fixed run.plan run.planned before old mid added run.kept run.tied on.steps in
         went_step drive fixed run.planned before who old mid added run.kept.order run.answers full on shown.0 shown.1
 
+  -- a turn of a session that drains adds what is promised, and the volume runs on
   pub drain_turns_all_run : DrainTurnsRun drive
   drain_turns_all_run fixed before after who at answer old new run fits drains moment asks next (fault counts t) =
       runs_on fixed before who old run drains after answer new

@@ -10,6 +10,7 @@ use Rattle.held_volume.specs.Stocks.{Stocked}
 use Rattle.state_laws.specs.Parts.{Parts, view_of}
 use Rattle.state_laws.specs.Stepping.{Steps, does, fails, misses, reads}
 
+-- in a step the head did what its event tells
 pub steps_driven : {D : Type 0} (drive : Ghosts D) (fixed : Fixed D) (next : Option Moment) (old new : Parts D)
     (added : List Event) → Steps drive old new added
     → AreDriven drive (view_of fixed next old) (view_of fixed next new) added

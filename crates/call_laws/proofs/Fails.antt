@@ -342,5 +342,6 @@ module _ {D : Type 0} (drive : Ghosts D) (fixed : Fixed D) (plan : Plan drive fi
     cached = tied.cached;
   }
 
+  -- a step in which the first op failed shows all that is asked, and leaves the volume tied
   pub fails : Stepped drive fixed before (view_of fixed next_at new) (e ∷ []) × IsTied drive fixed planned new
   fails = subst (λ (p : Parts D). Stepped drive fixed before (view_of fixed next_at p) (e ∷ []) × IsTied drive fixed planned p) now_is (stepped, tied_on)

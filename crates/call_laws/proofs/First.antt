@@ -116,6 +116,7 @@ module _ (limits : Limits) (m : Mounted) (some : 1 ≤ m.label.block) (tree : Tr
         reads_as = tt;
       }
 
+  -- what is planned first has the ends of the mount, and holds and reads as its tree
   pub is_first : (told : Option Cartridge) → IfSome told (λ c. Mounts c m) → tree ≡ plain_of (first_tape told) s.tree
       → IsFirst told m tree g s
   is_first (Some c) mounts plain = is_first_told c mounts plain

@@ -274,6 +274,7 @@ module _ {D : Type 0} (drive : Ghosts D) (fixed : Fixed D) (plan : Plan drive fi
   by_more true is on = shows_more (still ∙ is) on
   by_more false is on = shows_last (still ∙ is) on
 
+  -- a step that read a block shows all that is asked, and leaves the volume tied
   pub reads : Stepped drive fixed (view_of fixed next_at old) (view_of fixed next_at new) (e ∷ []) × IsTied drive fixed planned new
   reads = serves drive fixed plan planned next_at old new ticket place None (ends.Read got) kept tied did.step did.only did.events
       (by_more (list_any (λ (w : Waiting). w.owner == ticket) new.queue.waiting) refl did.reads)

@@ -39,6 +39,7 @@ pub record IsQueued (asked : List Op) (next : Space) (old new : State) : Type 0 
   pub syncs : new.syncs ≡ old.syncs
   pub done : new.done ≡ old.done
 
+-- the ops of a call without an index are queued, and no sync has ended them
 pub queued_by : (v : Rules) (on : Bool) (s : Space) (st : State) (ask : Ask) → AsksNoIndex ask → IsGrouped s st
     → IsQueued (ops_of v on s ask) (space.after v on s ask) st (fold after st (queues_at (map place_of (ops_of v on s ask))))
 queued_by v on s st nothing none grouped = record {
@@ -71,6 +72,7 @@ waiting_same old new ticket requests syncs =
     ap (λ (rs : List Request). list_any (λ r. r.ticket == ticket) rs || list_any (λ s. s.ticket == ticket) new.syncs) requests
     ∙ ap (λ (ss : List Waiter). list_any (λ r. r.ticket == ticket) old.requests || list_any (λ s. s.ticket == ticket) ss) syncs
 
+-- where the count of ops done and the syncs are the same, so is the sync that is due
 pub due_same : (old new : State) → new.done ≡ old.done → new.syncs ≡ old.syncs → due_ticket new ≡ due_ticket old
 due_same old new done syncs = ap (λ (n : ℕ). due_of n new.syncs) done ∙ ap (due_of old.done) syncs
 
@@ -136,6 +138,7 @@ unchanged_by s st here standing grouped same =
 
 -- ---- the events of a sync
 
+-- the events of a sync: its ops, itself, and its answer where nothing stands
 abbrev pub sync_events : ℕ → State → List Op → List Event
 sync_events here st asked =
     queues_at (map place_of asked) ++ events.Syncs here ∷ synced_at here (ops (fold after st (queues_at (map place_of asked))))
@@ -167,6 +170,7 @@ index_stands v on s text = by s.flush_due
     by true = omega arith
     by false = omega arith
 
+-- the ops of a sync are queued and ended by it
 pub sync_by : (v : Rules) (on : Bool) (s : Space) (st : State) (here : ℕ) (text : List ℕ) → IsGrouped s st → (b : Bool) → s.changed ≡ b
     → IsAdmitted (ops_of v on s (cond b (index text) nothing)) (space.after v on s (cond b (index text) nothing)) st
     (fold after st (sync_events here st (ops_of v on s (cond b (index text) nothing))))
@@ -181,6 +185,7 @@ sync_by v on s st here text grouped true same =
 
 -- once it is answered, nobody waits for it; and else it waits
 module _ (st : State) (here : ℕ) (places : List Place) where
+  -- a sync that is answered at once doesn't wait
   pub answered_rests : (new : State) → new ≡ fold after st (queues_at places ++ events.Syncs here ∷ events.Synced here ∷ []) → new.requests ≡ st.requests
       → is_waiting st here ≡ false → is_waiting new here ≡ false
   answered_rests new is requests rests =
@@ -195,6 +200,7 @@ module _ (st : State) (here : ℕ) (places : List Place) where
       left_only true b e = e
       left_only false b e = refl
 
+  -- a sync that isn't answered at once waits
   pub begun_there : (new : State) → new ≡ fold after st (queues_at places ++ events.Syncs here ∷ []) → is_waiting new here ≡ true
   begun_there new is =
       let whole : new ≡ after (fold after st (queues_at places)) (events.Syncs here) =

@@ -66,6 +66,7 @@ passed_by None e = inl refl
 passed_by (Some refusals.Damaged) e = inr refl
 passed_by (Some _) e = absurd cc
 
+-- a read that passes on a tape isn't refused where no byte is lost
 pub passes_free : (tape : Tape) (t : FileTree) (path : List (List ℕ)) (offset count : ℕ) → passes (refusal_of (plain_of tape t) (Read path offset count)) ≡ true
     → refusal_of (plain_of whole t) (Read path offset count) ≡ None
 passes_free tape t path offset count passed = ⊎_elim
@@ -75,6 +76,7 @@ passes_free tape t path offset count passed = ⊎_elim
     (λ lost. lost.1)
     (refusals_alike tape t (Read path offset count))
 
+-- a read that isn't refused where no byte is lost passes on each tape
 pub free_passes : (tape : Tape) (t : FileTree) (path : List (List ℕ)) (offset count : ℕ) → refusal_of (plain_of whole t) (Read path offset count) ≡ None
     → passes (refusal_of (plain_of tape t) (Read path offset count)) ≡ true
 free_passes tape t path offset count free =
@@ -98,6 +100,7 @@ held_put_at Dp Dp n m block bytes later rest e h = by (n == m) e
 held_put_at Ip Dp n m block bytes later rest e h = h e
 held_put_at Dp Ip n m block bytes later rest e h = h e
 
+-- where an op holds a block, an op that stands puts it
 pub held_put : (place : Place) (ops : List Op) (bytes : List ℕ) → held_in place ops ≡ Some bytes → list_any (puts_at place) (map headed ops) ≡ true
 held_put place [] bytes e = absurd cc
 held_put place (Put at block ∷ ops) bytes e =

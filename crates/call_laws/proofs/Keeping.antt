@@ -28,12 +28,14 @@ module _ {D : Type 0} (drive : Ghosts D)
   abbrev pub last_of : (can : CanServe drive fixed) → Index
   last_of can = (starts_are_safe drive counts_now fixed next can (mounts can)).0
 
+  -- the plan that is what stands on the cartridge at the start
   abbrev pub plan_of : Plan drive fixed
   plan_of can = record {
     labels = can.reads_as.0.reads.found.labels;
     made = made_of can.held can.reads_as.0.reads.found.on_ip (last_of can);
   }
 
+  -- a volume of which nothing was asked yet is kept by that plan
   pub begins_kept : HasSessions fixed.script → IsKept drive fixed plan_of (begun fixed next)
   begins_kept sessions = record {
     fixed_is = refl;

@@ -61,10 +61,12 @@ gone_by : {X : Type 0} (p : X → Bool) (x : X) (rest : List X) (b : Bool) → p
 gone_by p x rest true is e = e
 gone_by p x rest false is e = ap (λ b. b || list_any p rest) is ∙ e
 
+-- without those that pass a test none passes it
 pub all_gone : {X : Type 0} (p : X → Bool) (xs : List X) → list_any p (filter (λ x. not (p x)) xs) ≡ false
 all_gone p [] = refl
 all_gone p (x ∷ xs) = gone_by p x (filter (λ y. not (p y)) xs) (p x) refl (all_gone p xs)
 
+-- where not both hold and the first does, the second doesn't
 pub no_syncs : (a b : Bool) → (a && b) ≡ false → a ≡ true → b ≡ false
 no_syncs true b h e = h
 no_syncs false b h e = absurd (cc)
@@ -78,9 +80,11 @@ rise_of before now counts t = record {
   highest = omega (arith, t.1);
 }
 
+-- what holds of one thing holds of all of a list with that thing alone
 pub one_of : {X : Type 0} (P : X → Type 0) (x : X) → P x → All P (x ∷ [])
 one_of P x is = All-cons P x [] is (λ k d less. absurd (omega (arith, less)))
 
+-- what was put at the end of a list is in it
 pub last_in : {X : Type 0} (xs : List X) (x : X) → Contains (xs ++ x ∷ []) x
 last_in [] x = in_first x []
 last_in (y ∷ xs) x = in_rest y (xs ++ x ∷ []) x (last_in xs x)
@@ -162,5 +166,6 @@ module _ {D : Type 0} (drive : Ghosts D) (fixed : Fixed D) (plan : Plan drive fi
     cached = cached_still planned old.stock.layout.ops (drive.held fixed.first) old.cached new.cached did.cached tied.cached;
   }
 
+  -- a step for a request that failed shows all that is asked, and leaves the volume tied
   pub misses : Stepped drive fixed (view_of fixed next_at old) (view_of fixed next_at new) (e ∷ []) × IsTied drive fixed planned new
   misses = serves drive fixed plan planned next_at old new ticket place (Some counts) (ends.Failed counts) kept tied did.step did.only did.events shows

@@ -89,10 +89,12 @@ module _ (one other : Tape) (size : ℕ) (some : 1 ≤ size)
 
 -- ---- blocks of zeros
 
+-- blocks of zeros up to the ends of both partitions
 abbrev pub blanks : ℕ → layout.Ends → Items
 blanks size ends Ip = replicate ends.ip (Block (replicate size 0))
 blanks size ends Dp = replicate ends.dp (Block (replicate size 0))
 
+-- blocks of zeros up to some ends have these ends
 pub blank_ends : (size : ℕ) (ends : layout.Ends) → ends_in (blanks size ends) ≡ ends
 blank_ends size ends =
     let ip : length (blanks size ends Ip) ≡ ends.ip = length-replicate ends.ip (Block (replicate size 0)) in

@@ -77,6 +77,7 @@ once_from st [] trail once = once
 once_from st (e ∷ events) trail once =
     let may = may_come st e events trail in once_from (after st e) events may.later (one_once st e may.fits_now once)
 
+-- in a trail each read asks for each block once
 pub asked_once : (events : List Event) → IsTrail events → Once (after_all events).requests
 asked_once events trail = once_from start events trail tt
 

@@ -55,6 +55,7 @@ reading_later g on history p planned told st r h = record {
   asked = h.asked;
 }
 
+-- the reads that wait stay right as a call is placed that asks nothing
 pub reads_later : (g : Given) (on : Option ℕ) (history : List Placed) (p : Placed) (planned : Items) (told : Option Cartridge) (ops : List Op) (st : State) (reads : List Gathering)
     → AreReading g on history planned told ops st reads → AreReading g on (history ++ p ∷ []) planned told ops st reads
 reads_later g on history p planned told ops st reads h = record {
@@ -98,6 +99,7 @@ reads_to g on off history later planned told ops left st now reads waiting on_is
 
 -- ---- where placement goes on
 
+-- a place that was reached stays the one from where placement is on
 pub on_stays : (m : MountFacts) (on : Option ℕ) (n : ℕ) → IfSome on (λ first. first ≤ n) → is_on m on (n + 1) ≡ is_on m on n
 on_stays m None n reached = refl
 on_stays m (Some first) n reached =
@@ -105,12 +107,14 @@ on_stays m (Some first) n reached =
     let later : nat_le first (n + 1) ≡ true = grind (arith, nat_tests, reached) in
     ap (λ b. m.ip_on || b) (later ∙ sym now)
 
+-- a place that was reached stays reached
 pub reached_later : (on : Option ℕ) (n : ℕ) → IfSome on (λ first. first ≤ n) → IfSome on (λ first. first ≤ n + 1)
 reached_later None n reached = tt
 reached_later (Some first) n reached = omega (arith, reached)
 
 -- ---- no ops more
 
+-- no op changes nothing of what is planned
 pub same_items : (planned : Items) → with_ops [] planned ≡ planned
 same_items planned = λ i part. append-nil (planned part) i
 
@@ -121,9 +125,11 @@ module _ {D : Type 0} (drive : Ghosts D) (fixed : Fixed D) where
   abbrev pub stands_in : Parts D → Standing
   stands_in p = standing_here (seen drive fixed.first) (view_of fixed None p)
 
+  -- files may go to the index partition at the end of the parts' history
   abbrev pub on_in : Parts D → Bool
   on_in p = on_here (seen drive fixed.first) (view_of fixed None p)
 
+  -- what the parts were mounted with, as the definitions of space start from it
   abbrev pub given_in : Parts D → Given
   given_in p = given (view_of fixed None p) (seen drive fixed.first)
 
@@ -132,10 +138,12 @@ module _ {D : Type 0} (drive : Ghosts D) (fixed : Fixed D) where
       → stands_in new ≡ after_placed (given_in old) (on_in old) (stands_in old) p
   after_it old new p on history = standings_go_on.placed (drive.limits fixed.first) (view_of fixed None old) (view_of fixed None new) p refl on history
 
+  -- a void placement leaves what stands
   pub after_void : (old new : Parts D) (p : Placed) → new.on ≡ old.on → new.listed.history ≡ old.listed.history ++ p ∷ [] → p.fate ≡ fates.Void
       → stands_in new ≡ stands_in old
   after_void old new p on history fate = after_it old new p on history ∙ are_still.void (given_in old) (on_in old) (stands_in old) p fate
 
+  -- a placement that is done and asks nothing leaves what stands
   pub after_nothing : (old new : Parts D) (p : Placed) (call : Call) → new.on ≡ old.on → new.listed.history ≡ old.listed.history ++ p ∷ [] → p.fate ≡ fates.Done
       → call_at (given_in old).calls p ≡ Some call → ask_of (given_in old) (stands_in old) call p.at ≡ nothing → stands_in new ≡ stands_in old
   after_nothing old new p call on history fate is asks_none =
@@ -174,6 +182,7 @@ module _ {D : Type 0} (drive : Ghosts D) (fixed : Fixed D) where
     pub reads : AreReading (given_in old) new.on new.listed.history planned (drive.held fixed.first) new.stock.layout.ops (state new.trail) new.reads
     pub cached : All (IsKeptRightly planned old.stock.layout.ops (drive.held fixed.first)) new.cached
 
+  -- a volume stays tied where nothing of the tape changes
   pub tied_still : (planned : Items) (old new : Parts D) → IsTied drive fixed planned old → LeavesTape planned old new → IsTied drive fixed (with_ops [] planned) new
   tied_still planned old new tied h = subst (λ (ps : Items). IsTied drive fixed ps new) (sym (same_items planned)) (record {
     limits = tied.limits;

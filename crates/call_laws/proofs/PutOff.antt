@@ -89,6 +89,7 @@ module _ {D : Type 0} (drive : Ghosts D) (fixed : Fixed D) (plan : Plan drive fi
     cached = cached_still planned old.stock.layout.ops (drive.held fixed.first) old.cached new.cached v.cached s.tied.cached;
   })
 
+  -- a write that is put off shows all that is asked of it
   pub shown : Shown drive fixed plan planned before after who nth submitted.Drain [] old new
   shown = record {
     submits = record {

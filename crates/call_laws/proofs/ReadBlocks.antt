@@ -67,6 +67,7 @@ stands_at P (Stored at byte count ∷ pieces) all place has = ⊎_elim
     (λ later. stands_at P pieces all.1 place later)
     (in_cases at (filter_map stored_at pieces) place has)
 
+-- pieces whose blocks all lie below the ends lie below them
 pub all_below : (ends : Ends) (pieces : List Piece) → ((place : Place) → Contains (filter_map stored_at pieces) place → place.pos < end_of place.part ends) → LieBelow ends pieces
 all_below ends [] each = tt
 all_below ends (Zeros count ∷ pieces) each = (tt, all_below ends pieces each)
@@ -106,6 +107,7 @@ file_at t path free = by (fin.get t.nodes path) refl
 uid_is : (tape : Tape) (t : FileTree) (path : List (List ℕ)) (node : Node) → fin.get t.nodes path ≡ Some node → uid_at (plain_nodes tape t.nodes) path ≡ node.uid
 uid_is tape t path node there = rw (plain_get tape t.nodes path ∙ ap (option_map (plain_node_of tape)) there) refl
 
+-- each block of a read stands in a file of the tree
 pub blocks_stand : (tape : Tape) (g : Given) (on : Bool) (st : Standing) (s : Stocked) (path : List (List ℕ)) (offset count : ℕ) → IsStock tape g on st s → IsGood s.tree
     → refusal_of (plain_of whole s.tree) (Read path offset count) ≡ None
     → (place : Place) → Contains (blocks_in (st.files (uid_at st.tree.nodes path)) offset count) place → FilesStandIn st.files place.part place.pos

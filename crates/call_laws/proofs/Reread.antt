@@ -69,6 +69,7 @@ module _ (g : Given) (on : Option ℕ) (history : List Placed) (p : Placed) (pla
     ticket = is.ticket;
   }
 
+  -- the reads that wait stay right as a call's ops are admitted
   pub reads_on : (reads : List Gathering) → AreReading g on history planned told ops old reads
       → AreReading g on (history ++ p ∷ []) late told (ops ++ asked) new reads
   reads_on reads are = record {

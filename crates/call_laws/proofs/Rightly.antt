@@ -20,6 +20,7 @@ use Rattle.crash_laws.proofs.Trails.{trail_behind}
 use Rattle.event_journal.specs.Trails.{due_of, due_ticket}
 use Rattle.state_laws.specs.Parts.{Parts, view_of}
 
+-- a list with one more at its end isn't the list
 pub longer_than : {X : Type 0} (xs ys : List X) (x : X) → ys ≡ xs ++ x ∷ [] → ys ≡ xs → ⊥
 longer_than xs ys x more same =
     let one : length ys ≡ length (xs ++ x ∷ []) = ap (λ (l : List _). length l) more in
@@ -58,6 +59,7 @@ module _ {D : Type 0} (drive : Ghosts D) (fixed : Fixed D) (before after : Optio
     unplaced = λ same. absurd (longer_than old.listed.history new.listed.history p history same);
   }
 
+  -- where nothing is placed no op is added
   pub adds_none : new.listed.history ≡ old.listed.history → new.stock.layout.ops ≡ old.stock.layout.ops
       → AddsOps (drive.limits fixed.first) (view_of fixed before old) (view_of fixed after new)
   adds_none history ops_are = record {

@@ -110,6 +110,7 @@ module _ {D : Type 0} (drive : Ghosts D) (fixed : Fixed D) (plan : Plan drive fi
   abbrev g : Given
   g = given (view_of fixed next_at old) (seen drive fixed.first)
 
+  -- the event of a step for a request may come
   pub trail : is_trail_from st (e ∷ []) ≡ true
   trail = trail_behind old.trail.events (e ∷ []) (subst IsTrail events only.trail)
 
@@ -226,5 +227,6 @@ module _ {D : Type 0} (drive : Ghosts D) (fixed : Fixed D) (plan : Plan drive fi
       cached = shows.cached;
     }
 
+    -- a step for a request shows all that is asked, and leaves the volume tied
     pub serves : Stepped drive fixed before (view_of fixed next_at new) (e ∷ []) × IsTied drive fixed planned new
     serves = subst (λ (p : Parts D). Stepped drive fixed before (view_of fixed next_at p) (e ∷ []) × IsTied drive fixed planned p) now_is (stepped, tied_on)

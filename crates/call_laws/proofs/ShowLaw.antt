@@ -7,6 +7,7 @@ use Rattle.call_laws.proofs.Fails.{fails}
 use Rattle.call_laws.proofs.Gathers.{reads}
 use Rattle.call_laws.proofs.Misses.{misses}
 
+-- each step shows all that is asked of a turn, and leaves the volume tied
 pub steps_show : {D : Type 0} (drive : Ghosts D) → StepsShow drive
 steps_show drive fixed plan planned next old new all kept tied (did op end tickets h) = does drive fixed plan planned next old new op end tickets kept tied h
 steps_show drive fixed plan planned next old new all kept tied (failed op later counts h) = fails drive fixed plan planned next old new op later counts kept tied h

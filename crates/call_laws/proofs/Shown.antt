@@ -8,6 +8,7 @@ use Rattle.call_laws.proofs.Told as told
 use Rattle.call_laws.proofs.Voided as voided
 use Rattle.call_laws.proofs.Waiting as waiting
 
+-- each submission shows what is asked of it, and leaves the volume tied
 pub submissions_show : {D : Type 0} (drive : Ghosts D) → SubmissionsShow drive
 submissions_show drive fixed plan planned before after who nth call at answer asked old new s (voids reply v) =
     voided.shown drive fixed plan planned before after who nth call at reply old new s v

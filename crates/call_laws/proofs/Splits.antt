@@ -21,6 +21,7 @@ pub any_mid : {X : Type 0} (test : X → Bool) (front : List X) (x : X) (behind 
 any_mid test [] x behind is = or_left (test x) (list_any test behind) is
 any_mid test (y ∷ front) x behind is = or_right (test y) (list_any test (front ++ x ∷ behind)) (any_mid test front x behind is)
 
+-- where one of a list passes a test, some of it does
 pub any_in : {X : Type 0} (test : X → Bool) (xs : List X) (x : X) → Contains xs x → test x ≡ true
     → list_any test xs ≡ true
 any_in test [] x has is = absurd (in_none x has)

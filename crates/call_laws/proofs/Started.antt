@@ -16,6 +16,7 @@ use Rattle.call_laws.proofs.Tying.{first_given, planned, tied, view_begun}
 module _ {D : Type 0} (drive : Ghosts D)
     (counts_now : (d : D) (t : ℕ) (image : Cartridge) → t ≤ drive.commands d → drive.leaves d image
     → drive.left_since d t image) where
+  -- a volume that was mounted begins kept and tied
   pub beginnings_are_tied : BeginningsAreTied drive
   beginnings_are_tied fixed next p sessions range is mounts e =
       let g = first_given drive fixed in

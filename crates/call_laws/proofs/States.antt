@@ -75,6 +75,7 @@ op_leaves head arrived requests done (x ∷ ended) group syncs drains op = recor
   grouped = λ space g. record { due = g.due; changed = g.changed };
 }
 
+-- an op that was done leaves the other ops, and who wants blocks
 pub done_leaves : (st : State) (place : Place) (op : waiting.Op) → waiting_op st ≡ Some op
     → Leaves st (after st (Worked place None)) (drop 1 (waiting.ops st))
 done_leaves st place op is = subst (λ (o : Option waiting.Op). Leaves st (after_op o st) (drop 1 (waiting.ops st))) (sym is)
@@ -91,12 +92,14 @@ failed_leaves_by head at arrived requests done ended group [] drains counts =
 failed_leaves_by head at arrived requests done ended group (s ∷ syncs) drains counts =
     record { ops = refl; requests = refl; arrived = refl; grouped = λ space g. record { due = g.due; changed = g.changed } }
 
+-- an op that failed leaves all ops that stand, and who wants blocks
 pub failed_leaves : (st : State) (place : Place) (counts : Twin)
     → Leaves st (after st (Worked place (Some counts))) (waiting.ops st)
 failed_leaves st place counts = failed_leaves_by st.head place st.arrived st.requests st.done st.ended st.group st.syncs st.drains counts
 
 -- ---- syncs are answered
 
+-- syncs that are answered leave the ops and the requests
 pub synced_leave : (tickets : List ℕ) (old st : State) (standing : List waiting.Op) → Leaves old st standing
     → Leaves old (fold after st (synced_events tickets)) standing
 synced_leave [] old st standing l = l
@@ -107,6 +110,7 @@ synced_leave (t ∷ tickets) old st standing l = synced_leave tickets old (after
   grouped = λ space g. let h = l.grouped space g in record { due = h.due; changed = h.changed };
 })
 
+-- the events of answered syncs are answers
 pub synced_answers : (tickets : List ℕ) → All (λ (e : Event). is_answer e ≡ true) (synced_events tickets)
 synced_answers [] = λ k d less. absurd (omega (arith, less))
 synced_answers (t ∷ tickets) = All-cons (λ (e : Event). is_answer e ≡ true) (Synced t) (synced_events tickets) refl (synced_answers tickets)
@@ -164,6 +168,7 @@ none_drained st place tickets =
     ap (λ o. cons_option o (drain_faults_from (after st (Worked place None)) (synced_events tickets))) (both_none {Y = Twin} (session_of (op_owner st.syncs st.drains)))
     ∙ none_from tickets (after st (Worked place None))
 
+-- an op that was done brings no fault to anybody
 pub none_owned : (st : State) (place : Place) (tickets : List ℕ) (owner : Owner)
     → owned_from st owner (Worked place None ∷ synced_events tickets) ≡ []
 none_owned st place tickets owner =
@@ -171,6 +176,7 @@ none_owned st place tickets owner =
     ∙ ap (λ o. owned_head owner o ++ owned_from (after st (Worked place None)) owner (synced_events tickets)) (both_none (op_owner st.syncs st.drains))
     ∙ no_step_owned (after st (Worked place None)) owner (synced_events tickets) (answers_step (synced_events tickets) (synced_answers tickets))
 
+-- the events of answered syncs answer just these
 pub synced_tickets : (tickets : List ℕ) → filter_map synced_ticket (synced_events tickets) ≡ tickets
 synced_tickets [] = refl
 synced_tickets (t ∷ tickets) = ap (λ l. t ∷ l) (synced_tickets tickets)

@@ -34,6 +34,7 @@ put_at_place at x ends.Wrote old new well le h = at_last at.pos x (items_of at.p
 put_at_place at x ends.Flushed old new well le h = absurd h
 put_at_place at x (ends.Failed counts) old new well le h = absurd well
 
+-- an item that an op has written stands at its place
 pub op_stands : (op : Op) (end : StepDone) (old new : Cartridge) → IsWell end
     → (place_of op).pos ≤ length (items_of (place_of op).part old) → AfterOp op end old new
     → IfSome (item_of op) (λ x. item_at (place_of op) new ≡ Some x)
@@ -50,6 +51,7 @@ put_behind at ends.Wrote head well is = refl
 put_behind at ends.Flushed head well is = absurd is
 put_behind at (ends.Failed counts) head well is = absurd well
 
+-- once an op has put an item, the head stands behind its place
 pub op_behind : (op : Op) (end : StepDone) (head : Option Place) → IsWell end → IsEndOfOp op end → is_flush op ≡ false
     → head_after (place_of op) end head ≡ Some (next (place_of op))
 op_behind (Put at bytes) end head well is none = put_behind at end head well is
@@ -69,6 +71,7 @@ module _ {D : Type 0} (drive : Ghosts D) (op : Op) (end : StepDone) (before now 
       by None e = absurd (none-some c (sym (step.made.untold e) ∙ is))
       by (Some b) e = let t = step.told b e in (b, e, subst (AfterOp op end b) (same_Some t.0 c (sym t.1 ∙ is)) t.2)
 
+  -- a drive that tells nothing after a step told nothing before it
   pub was_untold : drive.held now ≡ None → drive.held before ≡ None
   was_untold none = by (drive.held before) refl
     where

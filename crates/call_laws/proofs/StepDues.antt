@@ -14,6 +14,7 @@ abbrev pub DueWithin : ℕ → ℕ → List Waiter → Type 0
 DueWithin low high [] = Unit {0}
 DueWithin low high (s ∷ syncs) = (low ≤ s.due) × (s.due ≤ high) × DueWithin s.due high syncs
 
+-- the syncs that wait are due in their order, none later than once all ended ops are done
 abbrev pub AreDue : State → Type 0
 AreDue st = DueWithin 0 (st.done + length st.ended) st.syncs
 
@@ -82,6 +83,7 @@ due_from : (st : State) (events : List Event) → AreDue st → AreDue (fold aft
 due_from st [] d = d
 due_from st (e ∷ events) d = due_from (after st e) events (one_due st e d)
 
+-- the syncs are due in their order after any events
 pub are_due : (events : List Event) → AreDue (after_all events)
 are_due events = due_from start events tt
 
@@ -91,12 +93,14 @@ by_late : (b : Bool) (ticket : ℕ) → cond b (Some ticket) None ≡ None → b
 by_late true ticket e = absurd (cc)
 by_late false ticket e = refl
 
+-- where the first sync isn't due, fewer ops are done than it waits for
 pub is_late : (done : ℕ) (s : Waiter) (more : List Waiter) → due_of done (s ∷ more) ≡ None → done < s.due
 is_late done s more e = let late = by_late (nat_le s.due done) s.ticket e in grind (arith, nat_tests)
 
 late_is : (done due : ℕ) → done < due → nat_le due done ≡ false
 late_is done due less = grind (arith, nat_tests)
 
+-- where fewer ops are done than any sync waits for, none is due
 pub none_due : (done low high : ℕ) (syncs : List Waiter) → done < low → DueWithin low high syncs
     → due_of done syncs ≡ None
 none_due done low high [] less d = refl

@@ -37,6 +37,7 @@ may_turn : (b : Bool) (m : MountFacts) (n : ℕ) → is_on m (cond b (Some n) No
 may_turn true m n = or_right m.ip_on (nat_le n n) (le_is n n (omega arith))
 may_turn false m n = refl
 
+-- placement on the index partition turns on with the first flush of the data partition
 pub on_turns : (op : Op) (m : MountFacts) (on : Option ℕ) (n : ℕ) → IfSome on (λ first. first ≤ n)
     → is_on m (on_done op n on) n ≡ cond (settles_dp op) true (is_on m on n)
 on_turns op m (Some first) n le = always (settles_dp op) (is_on m (Some first) n) (or_right m.ip_on (nat_le first n) (le_is first n le))
@@ -46,6 +47,7 @@ may_be : (b : Bool) (n : ℕ) → IfSome (cond b (Some n) None) (λ first. first
 may_be true n = omega arith
 may_be false n = tt
 
+-- the place from where placement is on is one that the history has reached
 pub on_within : (op : Op) (on : Option ℕ) (n : ℕ) → IfSome on (λ first. first ≤ n)
     → IfSome (on_done op n on) (λ first. first ≤ n)
 on_within op (Some first) n le = le
@@ -62,6 +64,7 @@ less_stock op later s = record s {
   };
 }
 
+-- what is held stays what stands once the first op was done
 pub stock_done : (tape : Tape) (g : Given) (on : Bool) (st : Standing) (s : Stocked) (op : Op) (later : List Op)
     → IsStock tape g on st s
     → IsStock tape g (cond (settles_dp op) true on) st (less_stock op later s)

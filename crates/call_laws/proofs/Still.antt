@@ -132,6 +132,7 @@ module _ {D : Type 0} (drive : Ghosts D) (fixed : Fixed D) (plan : Plan drive fi
     cached = cached;
   })
 
+  -- a reply that comes at once and changes nothing else shows all that is asked
   pub still_shown : IsOfFate fate here old.trail.events (Some call) []
       → AsksUnlessVoid (submitted.Ready reply) (stands_in drive fixed old) old.trail.events [] old.cached new.cached (Some call)
       → told (Some reply) ≡ None → is_synced (Some reply) ≡ false

@@ -105,6 +105,7 @@ module _ {D : Type 0} (drive : Ghosts D) (fixed : Fixed D) (planned : Items) (be
           (λ part pos byte. sym (plans_agree.tapes p.made part pos byte
           ∙ ap (λ (l : List Item). byte_in (slice_get l pos) byte) (items part))) tied.stock
 
+      -- the index of a sync is due, by a plan with the mounted label
       pub due_with : fixed.mounted.label ≡ p.labels.ip
           → IsNextDue p (drive.limits fixed.first) (view_of fixed before old) at
       due_with label_is = index_due p (drive.limits fixed.first) (view_of fixed before old) on old.stock at
@@ -117,6 +118,7 @@ module _ {D : Type 0} (drive : Ghosts D) (fixed : Fixed D) (planned : Items) (be
 module _ {D : Type 0} (drive : Ghosts D) (fixed : Fixed D) (plan : Plan drive fixed) (planned : Items)
     (before next : Option Moment) (who nth : ℕ) (at : Moment) (answer : Submitted) (old new : Parts D)
     (sub : IsSubmission drive fixed plan planned before next who nth calls.Sync at answer old new) where
+  -- the index of a sync that fits is due where anything changed before it
   pub due_next : is_over (rules (given_in drive fixed)) (on_in drive fixed old) (standing_in drive fixed old).space
       (ask_of (given_in drive fixed) (standing_in drive fixed old) calls.Sync at) ≡ false
       → (standing_in drive fixed old).space.changed ≡ true

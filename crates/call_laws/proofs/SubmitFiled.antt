@@ -49,6 +49,7 @@ held_last place (op ∷ ops) asked has = by (held_by place op) (held_last place 
 abbrev pub AddNone : Files → Files → Type 0
 AddNone before next = (part : Part) (pos : ℕ) → FilesStandIn next part pos → FilesStandIn before part pos
 
+-- files that get no new block stay right as ops are admitted
 pub files_stay : (planned : Items) (ops asked : List Op) (before next : Files) → AreNext (ends_in planned) asked → AddNone before next
     → AreFilesRight before (ends_in planned) ops → AreFilesRight next (ends_in (with_ops asked planned)) (ops ++ asked)
 files_stay planned ops asked before next follows fewer right = record {
@@ -75,6 +76,7 @@ changed_by : (uid : ℕ) (change : Laid → Laid) (files : Files) (part : Part) 
 changed_by uid change files part pos n true is stands = inl (stands, is)
 changed_by uid change files part pos n false is stands = inr stands
 
+-- a file that is cut gets no new block
 pub cut_adds_none : (no_other : NoOtherBlocks) (uid size : ℕ) (files : Files) → AddNone files (with_file uid (λ f. resized f size) files)
 cut_adds_none no_other uid size files part pos stands = ⊎_elim
     (λ (new : FileStandsIn (resized (files stands.uid) size) part pos × (stands.uid == uid ≡ true)).
@@ -109,6 +111,7 @@ held_below planned asked place follows has = omega (
   end_is place.part (with_ops asked planned),
 )
 
+-- a file with bytes in new blocks is right once their puts are admitted
 pub files_stored : (no_other : NoOtherBlocks) (planned : Items) (ops : List Op) (files : Files) (uid size : ℕ) (new : Extent) (bytes : List ℕ)
     → AreNext (ends_in planned) (puts size new.part new.block bytes)
     → ((p : Part) → 4 ≤ end_of p (ends_in planned)) → IsLaid (files uid) → (files uid).block_size ≡ size → 1 ≤ size

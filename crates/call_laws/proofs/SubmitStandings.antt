@@ -60,6 +60,7 @@ done_by g on st p fates.Done (Some call) it f d e same = rw (f, e) (ap (λ (c : 
     left g on st at (Some call) = after_done g on st call at
 done_by g on st p fates.Void call it f d e same = absurd (cc d)
 
+-- what stands behind a placement that is done is what its call leaves
 pub stands_next : (g : Given) (on : Option ℕ) (history : List Placed) (p : Placed) (call : Call) → p.fate ≡ fates.Done → call_at g.calls p ≡ Some call
     → standing g on (history ++ p ∷ []) (length history + 1)
     ≡ after_done g (is_on g.mounted on (length history)) (standing g on history (length history)) call p.at
@@ -92,6 +93,7 @@ all_rise g on part (e ∷ es) st = omega (
   all_rise g on part es (after_placed g (is_on g.mounted on e.0) st e.1),
 )
 
+-- both ends of what stands lie behind the labels
 pub stands_low : (g : Given) (on : Option ℕ) (history : List Placed) (k : ℕ) → 4 ≤ g.mounted.ends.ip → 4 ≤ g.mounted.ends.dp
     → (part : Part) → 4 ≤ end_of part (standing g on history k).space.ends
 stands_low g on history k ip dp Ip = omega (arith, ip, all_rise g on Ip (enumerate_from 0 (take k history)) (first_standing g))
@@ -119,6 +121,7 @@ end_set limits e n Ip most room Dp = room Dp
 end_set limits e n Dp most room Ip = room Ip
 end_set limits e n Dp most room Dp = most
 
+-- the ends behind a call that fits lie within the capacities
 pub room_on : (v : Rules) (on : Bool) (s : Space) (ask : Ask) (part : Part) → is_over v on s ask ≡ false
     → ((p : Part) → end_of p s.ends ≤ capacity p v.limits) → end_of part (space.after v on s ask).ends ≤ capacity part v.limits
 room_on v on s nothing part fits room = room part
@@ -208,6 +211,7 @@ module _ (g : Given) (on : Bool) (st : Standing) (planned : Items) (ops : List O
   cut_short_files path size (store wanted bytes) = same_files (store wanted bytes)
   cut_short_files path size (index text) = same_files (index text)
 
+  -- the files behind a call are right, with the blocks that it stored
   pub files_right : (call : Call) (ask : Ask)
       → ((path : List (List ℕ)) (offset : ℕ) (bytes : List ℕ) → call ≡ Write path offset bytes
       → IsFileOf g.mounted.label.block (st.files (uid_at st.tree.nodes path)))

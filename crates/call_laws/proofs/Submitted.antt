@@ -132,6 +132,7 @@ module _ {D : Type 0} (first now : Drive) (fixed : Fixed D) (before after_it : O
 
 module _ {D : Type 0} (drive : Ghosts D)
     (only_now : (d : D) (image : Cartridge) → drive.commands d < 2 ^ 64 - 1 → drive.left_since d (drive.commands d) image → drive.leaves d image) where
+  -- a submission adds what is promised of it, and the volume runs on
   pub submissions_run : SubmissionsRun drive
   submissions_run fixed before after_it who nth call at answer asked old new runs c made =
       let v : View D = view_of fixed before old in

@@ -350,6 +350,7 @@ module _ {D : Type 0} (drive : Ghosts D) (fixed : Fixed D) (plan : Plan drive fi
   by_ops [] is sub = at_once is sub
   by_ops (op ∷ ops) is sub = later op ops is sub
 
+  -- a sync shows all that is asked of it
   pub shown : (call : Call) → call ≡ calls.Sync
       → IsSubmission drive fixed plan planned before next who nth call at (synced_answer (length old.listed.history) new.stock.layout.ops) old new
       → Shown drive fixed plan planned before next who nth (synced_answer (length old.listed.history) new.stock.layout.ops) s.asked old new

@@ -120,6 +120,7 @@ go_on calls front (q ∷ behind) are =
     subst (AreSyncsAt calls) (append_assoc front (q ∷ []) behind)
     (go_on calls (front ++ q ∷ []) behind (one_placed calls front q q.fate (call_at calls q) refl refl are))
 
+-- each sync that waits is the call at its place
 pub syncs_at : (calls : Calls) (history : List Placed) (events : List Event) (k : ℕ) → AreSyncs calls history events
     → list_any (syncs_it k) (after_all events).syncs ≡ true
     → IsSyncAt calls history k

@@ -41,6 +41,7 @@ way_done planned c way part =
     let here : planned part ≡ way.plan.made part = way.plan.leads part ∙ append-nil (way.plan.made part) in
     here ∙ sym (way.reads part) ∙ ap (λ (l : List Item). take (length l) (items_of part c)) (sym here)
 
+-- what is planned at the start is what the mount finds of both partitions
 pub begun_items : (planned : Items) (c : Cartridge) → IsOnWay planned [] c → length (planned Ip) ≡ ip_end c
     → length (planned Dp) ≡ dp_end c → (part : Part) → planned part ≡ mounted_items c part
 begun_items planned c way ip dp Ip = way_done planned c way Ip ∙ ap (λ (n : ℕ). take n c.ip) ip
@@ -52,6 +53,7 @@ module _ {D : Type 0} (drive : Ghosts D) (fixed : Fixed D) where
 
   -- ---- the start
 
+  -- a volume that was mounted has all that a close will ask for
   pub begins_ready : (plan : Plan drive fixed) (planned : Items) (next : Option Moment)
       → ((c : Cartridge) → drive.held fixed.first ≡ Some c → Mounts c fixed.mounted)
       → ((can : CanServe drive fixed) → IsSafeNow drive (plan can) limits (begun fixed next))
@@ -82,6 +84,7 @@ module _ {D : Type 0} (drive : Ghosts D) (fixed : Fixed D) where
     abbrev w : View D
     w = view_of fixed after new
 
+    -- a submission leaves all that a close will ask for
     pub submitted_ready : new.drive ≡ old.drive → new.on ≡ old.on → w.ops ≡ v.ops ++ asked → GoesOnBy v w
         → (CanServe drive fixed → AddsOps limits v w) → (CanRead drive fixed → AddsOps limits v w)
         → (space_now limits v).ends ≡ ends_in planned → 1 ≤ fixed.mounted.label.block
@@ -116,6 +119,7 @@ module _ {D : Type 0} (drive : Ghosts D) (fixed : Fixed D) where
     abbrev w1 : View D
     w1 = view_of fixed after new
 
+    -- a turn leaves all that a close will ask for
     pub turned_ready : w1.history ≡ v1.history → IsReadyToClose drive fixed plan planned w1
     turned_ready history = record {
       mounts = was.mounts;
@@ -130,6 +134,7 @@ module _ {D : Type 0} (drive : Ghosts D) (fixed : Fixed D) where
           (was.own can c told) refl history step.on;
     }
 
+    -- a write that is placed void leaves all that a close will ask for
     pub voided_ready : (placed : Placed) → w1.history ≡ v1.history ++ placed ∷ [] → placed.fate ≡ fates.Void
         → IsReadyToClose drive fixed plan planned w1
     voided_ready placed history fate = record {

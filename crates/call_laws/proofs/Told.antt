@@ -121,6 +121,7 @@ module _ {D : Type 0} (drive : Ghosts D) (fixed : Fixed D) (planned : Items) (p 
   may_use _ c told = tt
 
 module _ {D : Type 0} (drive : Ghosts D) where
+  -- a call that is answered at once and leaves all as it was shows all that is asked
   pub shown : (fixed : Fixed D) (plan : Plan drive fixed) (planned : Items) (before after : Option Moment) (who nth : ℕ) (call : Call) (at : Moment) (told : Answer) (old new : Parts D)
       → IsSubmission drive fixed plan planned before after who nth call at (submitted.Ready (replies.Answer told)) old new → Answers who nth call at told old new
       → Shown drive fixed plan planned before after who nth (submitted.Ready (replies.Answer told)) [] old new

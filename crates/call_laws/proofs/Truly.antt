@@ -41,6 +41,7 @@ module _ {D : Type 0} (drive : Ghosts D) (fixed : Fixed D) (plan : Plan drive fi
   module _ (asked : List Op) (one : IsOne drive fixed planned call (placed_of who nth at) asked old new) (reply : Option Reply)
       (places : PlacesCall who nth at fates.Done reply old new) (added : List Event)
       (events : new.trail.events ≡ old.trail.events ++ added) where
+    -- a call that is placed adds one placement and its reply
     pub places_one : Places (view_of fixed before old) (view_of fixed next new) who nth fates.Done reply
     places_one = record {
       placed = placed_of who nth at;
@@ -52,6 +53,7 @@ module _ {D : Type 0} (drive : Ghosts D) (fixed : Fixed D) (plan : Plan drive fi
       replies = places.replies;
     }
 
+    -- the events of a call may follow those that were there
     pub follows_on : MayFollow (view_of fixed before old) (view_of fixed next new) added
     follows_on = follows_by drive fixed before next old new added one.moves.trail events
         (ap (map headed) one.ops
@@ -65,9 +67,11 @@ module _ {D : Type 0} (drive : Ghosts D) (fixed : Fixed D) (plan : Plan drive fi
         ∙ ap (λ (c : Option Call). ops_here (given_in drive fixed) (on_in drive fixed old) (standing_in drive fixed old) fates.Done c at) sub.is_call
         ∙ sym (asked_is drive fixed planned call (placed_of who nth at) asked old new one)
 
+    -- the ops that are added are those that the placement admits
     pub adds_ops : AddsOps (drive.limits fixed.first) (view_of fixed before old) (view_of fixed next new)
     adds_ops = adds_by drive fixed before next old new (placed_of who nth at) asked places.history one.ops admitted_is
 
+    -- a placement queues what it admits, and its reply is one that may come
     abbrev pub places_truly : filter_map queued added ≡ map place_of asked
         → IfSome reply (λ r. IsReadyHere (given_in drive fixed) (on_in drive fixed old) (standing_in drive fixed old) call at r)
         → PlacesTruly (seen drive fixed.first) (view_of fixed before old) (view_of fixed next new) who nth fates.Done reply

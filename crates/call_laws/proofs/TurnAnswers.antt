@@ -43,6 +43,7 @@ module _ {D : Type 0} (old new : Parts D) (has_old : HasAnswers old) (keeps : Ke
       same_Some reply (the_replies.Answer a) (same_Some (Some reply) (Some (the_replies.Answer a)) (sym (stay k reply e) ∙ now)) in
       keeps.stay k a (has_old.kept who k a waiting (e ∙ ap (λ (r : Reply). Some (Some r)) same) other)
 
+  -- over a step the answers of reads are kept until they are handed out
   pub answers_stay : HasAnswers new
   answers_stay = record {
     each = λ k a is. ⊎_elim (λ was. stay k (the_replies.Answer a) (has_old.each k a was)) (λ now. now) (keeps.only k a is);
@@ -83,18 +84,21 @@ same_of None a b is_a is_b = absurd (let h : false ≡ true = is_a in cc)
 same_of (Some p) a b is_a is_b = sym (eqb-true p.who a is_a) ∙ eqb-true p.who b is_b
 
 module _ {D : Type 0} (drive : Ghosts D) (v : View D) (kept : IsInOrder drive v) where
+  -- a place for which a session waits is one of its own calls
   pub placed_by_it : (who k : ℕ) → phase who v.marks ≡ waits k → passes (λ (q : Placed). q.who == who) (slice_get v.history k) ≡ true
   placed_by_it who k waiting =
       let p = (((phases_plain drive v kept who).waits_for k).0 waiting).placed in
       sym (has_picked (λ (q : Placed). q.who == who) v.history k) ∙ ap (has k) (sym (kept.orderly.marks.places who))
       ∙ list_any-from_Any (λ x. x == k) (places_of who v.marks) (p.0, k, p.1, p.2, eq-eqb k k refl)
 
+  -- no two sessions wait for one place
   pub waits_alone : (a b k : ℕ) → phase a v.marks ≡ waits k → phase b v.marks ≡ waits k → a ≡ b
   waits_alone a b k of_a of_b = same_of (slice_get v.history k) a b (placed_by_it a k of_a) (placed_by_it b k of_b)
 
 -- ---- a reply that is handed out
 
 module _ {D : Type 0} (p : Parts D) (who ticket : ℕ) (reply : Reply) (block : List ℕ) (spare : ℕ) where
+  -- the parts once a reply is handed out
   abbrev pub handed : Parts D
   handed = record p {
     block = block;
@@ -129,6 +133,7 @@ module _ {D : Type 0} (p : Parts D) (who ticket : ℕ) (reply : Reply) (block : 
         (λ same. both_ways (who == w) is (eq-eqb who w (sym (alone w (still ∙ ap waits (eqb-true k ticket same)))))) in
         others_same k ticket p.answered differ ∙ has_old.kept w k a still now other
 
+    -- once a reply is handed out, the answers of the others are kept
     pub answers_handed : HasAnswers handed
     answers_handed = record {
       each = λ k a is. each_by k a (k == ticket) refl is;

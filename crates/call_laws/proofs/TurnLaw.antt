@@ -158,6 +158,7 @@ module _ {D : Type 0} (drive : Ghosts D)
       runs_on new the_turns.More t shows.1
       (answers_stay old new runs.answers s.answers shows.0.replies.count shows.0.replies.each shows.0.marks)
 
+-- a turn of a session that waits adds what is promised of it, and the volume runs on
 pub turns_run : {D : Type 0} (drive : Ghosts D)
     → ((d : D) (image : Cartridge) → drive.commands d < 2 ^ 64 - 1 → drive.left_since d (drive.commands d) image → drive.leaves d image)
     → TurnsRun drive

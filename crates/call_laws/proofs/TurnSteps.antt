@@ -38,6 +38,7 @@ pub record Came {D : Type 0} (drive : Ghosts D) (fixed : Fixed D) (old new : Vie
   pub truth : CanRead drive fixed → AnswersTruly (seen drive fixed.first) old new
   pub driven : AreDriven drive old new added
 
+-- a turn with a step adds what that step shows
 pub came_by : {D : Type 0} (drive : Ghosts D) (fixed : Fixed D) (old new : View D) (added : List Event)
     → Stepped drive fixed old new added → AreDriven drive old new added → Came drive fixed old new added
 came_by drive fixed old new added s driven = record {
@@ -58,6 +59,7 @@ on_stays : {D : Type 0} (v : View D) (o : Option ℕ) → o ≡ on_after (record
 on_stays v None = refl
 on_stays v (Some first) = refl
 
+-- a turn without a step adds nothing
 pub came_none : {D : Type 0} (drive : Ghosts D) (fixed : Fixed D) (plan : Plan drive fixed) (v : View D)
     → IsKept drive fixed plan v → drive.commands v.drive ≤ 2 ^ 64 - 1 → Came drive fixed v v []
 came_none drive fixed plan v kept counted = record {

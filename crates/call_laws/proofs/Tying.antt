@@ -63,9 +63,11 @@ view_begun drive fixed next p e = λ i. record {
 }
 
 module _ {D : Type 0} (drive : Ghosts D) (fixed : Fixed D) where
+  -- what the parts start from, as the definitions of space see it
   abbrev pub first_given : Given
   first_given = given (begun fixed None) (seen drive fixed.first)
 
+  -- what is planned first
   abbrev pub planned : Items
   planned = first_items (drive.held fixed.first) fixed.mounted
 
@@ -133,6 +135,7 @@ module _ {D : Type 0} (drive : Ghosts D) (fixed : Fixed D) where
       asked = of_state (λ st. All (IsAsked planned ops p.reads) st.requests) (All-nil (IsAsked planned ops p.reads));
     }
 
+    -- the parts of a volume of which nothing was asked yet are tied
     pub tied : IsTied drive fixed planned p
     tied = record {
       limits = range;

@@ -107,12 +107,14 @@ module _ {D : Type 0} (drive : Ghosts D) (fixed : Fixed D) (planned : Items) (p 
   asked_is = filter_alike (λ place. not (is_put p.trail.events place || is_cached p.cached place)) (λ place. not (is_held p.stock.layout.ops place || is_cached p.cached place)) (distinct blocks)
       (λ place has. ap (λ b. not (b || is_cached p.cached place)) (held_alike place (in_distinct blocks place has)))
 
+  -- the blocks that a read finds by the events are those that the stock and cache have
   pub found_is : found (distinct blocks) p.trail.events p.cached ≡ found_of p.stock.layout.ops p.cached (distinct blocks)
   found_is = filter_alike (λ place. not (is_put p.trail.events place) && is_cached p.cached place) (λ place. not (is_held p.stock.layout.ops place) && is_cached p.cached place) (distinct blocks)
       (λ place has. ap (λ b. not b && is_cached p.cached place) (held_alike place (in_distinct blocks place has)))
 
 -- ---- the blocks that are kept stay right
 
+-- blocks that are kept stay right where none is added
 pub cached_still : (planned : Items) (standing : List Op) (told : Option Cartridge) (cached next : List Kept) → next ≡ cached
     → All (IsKeptRightly planned standing told) cached → All (IsKeptRightly planned standing told) next
 cached_still planned standing told cached next is all = subst (All (IsKeptRightly planned standing told)) (sym is) all

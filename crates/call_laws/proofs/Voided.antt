@@ -49,6 +49,7 @@ void_isnt_done : fates.Void ≡ fates.Done → ⊥
 void_isnt_done e = cc
 
 module _ {D : Type 0} (drive : Ghosts D) where
+  -- a call that is void shows all that is asked of it
   pub shown : (fixed : Fixed D) (plan : Plan drive fixed) (planned : Items) (before after : Option Moment) (who nth : ℕ) (call : Call) (at : Moment) (reply : Reply) (old new : Parts D)
       → IsSubmission drive fixed plan planned before after who nth call at (submitted.Ready reply) old new → Voids who nth call at reply old new
       → Shown drive fixed plan planned before after who nth (submitted.Ready reply) [] old new

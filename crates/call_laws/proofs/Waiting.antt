@@ -277,6 +277,7 @@ module _ {D : Type 0} (drive : Ghosts D) (fixed : Fixed D) (plan : Plan drive fi
   }
 
 module _ {D : Type 0} (drive : Ghosts D) where
+  -- a read that waits for blocks shows all that is asked of it
   pub shown : (fixed : Fixed D) (plan : Plan drive fixed) (planned : Items) (before after : Option Moment) (who nth : ℕ) (asks : Call) (path : List (List ℕ)) (offset count : ℕ) (at : Moment) (old new : Parts D)
       → IsSubmission drive fixed plan planned before after who nth asks at (submitted.Wait (length old.listed.history)) old new → asks ≡ calls.Read path offset count
       → Waits who nth path offset count at old new

@@ -33,6 +33,7 @@ use Rattle.call_laws.proofs.Placed.{reading_later}
 
 -- ---- the events
 
+-- the events of a read that asks for these blocks
 abbrev pub wants_of : ℕ → List Place → List Event
 wants_of here places = map (λ place. Wants here place) places
 
@@ -42,6 +43,7 @@ pub kept_by : {Y : Type 0} (f : State → Y) (here : ℕ) → ((st : State) (pla
 kept_by f here one [] st = refl
 kept_by f here one (place ∷ places) st = kept_by f here one places (after st (Wants here place)) ∙ one st place
 
+-- a read's requests come behind those that wait
 pub requests_are : (here : ℕ) (places : List Place) (st : State) → (fold after st (wants_of here places)).requests ≡ st.requests ++ requests_for here st.arrived places
 requests_are here [] st = sym (append-nil st.requests)
 requests_are here (place ∷ places) st =
@@ -68,6 +70,7 @@ others_ask here arrived (x ∷ xs) ticket place other =
     ap (λ t. (t && same_place x place) || list_any (asks ticket place) (requests_for here (arrived + 1) xs)) other
     ∙ others_ask here (arrived + 1) xs ticket place other
 
+-- a read that asks for a block has a request
 pub asks_it : (here arrived : ℕ) (places : List Place) → 1 ≤ length places → list_any (is_of here) (requests_for here arrived places) ≡ true
 asks_it here arrived [] some = absurd (omega (arith, some))
 asks_it here arrived (x ∷ xs) some = ap (λ t. t || list_any (is_of here) (requests_for here (arrived + 1) xs)) (number_itself here)

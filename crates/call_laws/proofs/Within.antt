@@ -16,6 +16,7 @@ use Rattle.order_laws.proofs.Rising.{has}
 contains_has : (xs : List ℕ) (k : ℕ) → Contains xs k → has k xs ≡ true
 contains_has xs k there = list_any-from_Any (λ x. x == k) xs (there.0, k, there.1, there.2, eq-eqb k k refl)
 
+-- a session waits for a place that the history has
 pub waits_within : {D : Type 0} (drive : Ghosts D) (v : View D) → IsInOrder drive v → (who k : ℕ) → phase who v.marks ≡ waits k
     → k < length v.history
 waits_within drive v order who k waiting = ⊎_elim (λ less. less) (λ past. absurd (by past)) (cases_lt k (length v.history))

@@ -78,6 +78,7 @@ known_record bytes =
     (λ r. (r.1.size, record_stands bytes r.0 r.1))
     (known_both (known_eq (length bytes) 80) (known_stand bytes))
 
+-- whether a partition begins with a record can be decided
 pub known_some_record : (items : List Item) → Known (HasSomeRecord items)
 known_some_record items =
     known_by (λ h. (h.2.0, record { bytes = h.0; stands = h.1; spelled = h.2.1 })) (λ r. (r.1.bytes, r.1.stands, (r.0, r.1.spelled)))
@@ -89,6 +90,7 @@ known_label_text text = ⊎_elim
     (λ stops. inr (λ (h : (v : LabelValue) × LabelText text v). label_goes text h.0 stops.0 h.1 stops.1))
     (label_or_stops text)
 
+-- whether a partition has a label can be decided
 pub known_some_label : (items : List Item) → Known (HasSomeLabel items)
 known_some_label items =
     known_by (λ h. (h.2.0, record { bytes = h.0; stands = h.1; spelled = h.2.1 })) (λ r. (r.1.bytes, r.1.stands, (r.0, r.1.spelled)))
@@ -125,6 +127,7 @@ known_places a b =
     known_by (λ h. record { letters = h.0; in_index = h.1.0; in_data = h.1.1 }) (λ o. (o.letters, (o.in_index, o.in_data)))
     (known_both (known_not (known_eq a.index a.dpart)) (known_both (known_eq a.location a.index) (known_eq b.location b.dpart)))
 
+-- whether two labels are of one volume can be decided
 pub known_volume : (a b : LabelValue) → Known (AreOfOneVolume a b)
 known_volume a b =
     known_by (λ h. record { origin = h.0; layout = h.1.0; places = h.1.1 }) (λ o. (o.origin, (o.layout, o.places)))
@@ -147,6 +150,7 @@ known_names : (label : Label) (back : Option Spot) (ks : List Construct) → Kno
 known_names label back [] = inr (λ h. h)
 known_names label back (k ∷ older) = known_either (known_back back (Some (spot_of label Dp k))) (known_names label back older)
 
+-- whether the pointers of the data partition's last index are right can be decided
 pub known_on_dp : (label : Label) (k : Construct) (older : List Construct) (index : Index) → Known (PointsOnDp label k older index)
 known_on_dp label k older index =
     known_by (λ h. record { here = h.0; back = h.1 }) (λ p. (p.here, p.back))
@@ -159,6 +163,7 @@ known_points_back label index dps (Some d) =
     (known_both (known_le d.generation index.generation) (known_back index.back (newest_spot label dps)))
     (known_both (known_lt index.generation d.generation) (known_names label index.back dps))
 
+-- whether the pointers of the index partition's last index are right can be decided
 pub known_on_ip : (label : Label) (k : Construct) (dps : List Construct) (on_dp : Option Index) (index : Index) → Known (PointsOnIp label k dps on_dp index)
 known_on_ip label k dps on_dp index =
     known_by (λ h. record { here = h.0; back = h.1 }) (λ p. (p.here, p.back))
@@ -215,6 +220,7 @@ module _ (label : Label) (ip dp : ℕ) where
     pub within : AllByRecursion (FitsNode label ip dp) before
     pub outside : ¬ FitsNode label ip dp node
 
+  -- the extents of all nodes lie before the ends, or there is a first node where not
   pub all_or_first : (nodes : List Node) → AllByRecursion (FitsNode label ip dp) nodes ⊎ FirstOutside nodes
   all_or_first [] = inl tt
   all_or_first (node ∷ nodes) = by (known_kind node.kind) (all_or_first nodes)

@@ -225,6 +225,7 @@ module _ (index : Index) where
       (λ none. from_others bounded (λ at h. none at (slice_get_within index.nodes at h.node h.is) h))
       (first_below (HasBadUid index.highest index.nodes) (known_bad_uid index.highest index.nodes) (length index.nodes))
 
+  -- an index agrees, or a fault of it is told
   pub agrees_or_fault : Verdict
   agrees_or_fault = ⊎_elim
       (λ over. inr (faults.Uid index.highest, inl (record { over = over; same = refl })))

@@ -75,6 +75,7 @@ module _ (label : Label) (ip dp : ℕ) (differ : label.index ≢ label.dpart) wh
       let fits = all_at (λ (e : RawExtent). 0 < e.count → Fits label ip dp e) s.raws file s.which s.raw s.is in
       fits_below s.raw part pos (fits (omega (arith, s.block.within))) s.block
 
+  -- the tree of an index stays where the items below the ends stay
   pub tree_stays : (c d : Cartridge) (index : Index) (tree : Tree) → AllByRecursion (FitsNode label ip dp) index.nodes
       → take ip c.ip ≡ take ip d.ip → take dp c.dp ≡ take dp d.dp → IsTreeOf label c index tree → IsTreeOf label d index tree
   tree_stays c d index tree all e f h = (
@@ -105,6 +106,7 @@ module _ (label : Label) (ip dp ip2 dp2 : ℕ) (le : ip ≤ ip2) (le2 : dp ≤ d
   kind_further (kinds.File size extents) f = extents_further extents f
   kind_further (kinds.Link text) f = f
 
+  -- extents that lie before ends lie before later ends
   pub nodes_further : (nodes : List Node) → AllByRecursion (FitsNode label ip dp) nodes → AllByRecursion (FitsNode label ip2 dp2) nodes
   nodes_further [] all = all
   nodes_further (node ∷ nodes) all = (kind_further node.kind all.0, nodes_further nodes all.1)
@@ -132,6 +134,7 @@ label_stays items others l e h = record {
   spelled = h.spelled;
 }
 
+-- the labels of a cartridge stay where the first four items of each partition stay
 pub labels_stay : (c d : Cartridge) (l : Labels) → take 4 c.ip ≡ take 4 d.ip → take 4 c.dp ≡ take 4 d.dp → HasLabels c l → HasLabels d l
 labels_stay c d l e f h = record {
   ip_record = record_stays c.ip d.ip l.ip_record e h.ip_record;
@@ -161,6 +164,7 @@ module _ (c d : Cartridge) (k : Keeps c d) where
     within = nodes_further f.labels.ip (ip_end c) (dp_end c) (ip_end d) (dp_end d) k.ip_further ends_further f.index.nodes f.within;
   }
 
+  -- a cartridge that keeps labels, indexes and items below the ends reads as before
   pub reads_stays : (facts : Carried) (tree : Tree) (generation : ℕ) → Reads c facts tree generation → Reads d facts tree generation
   unfolding found_stays
   reads_stays facts tree generation r = record {
@@ -182,6 +186,7 @@ newest_named : (label : Label) (back : Option Spot) (ks : List Construct) → ks
 newest_named label back [] some e = absurd (some refl)
 newest_named label back (k ∷ older) some e = inl e
 
+-- the index partition's last index points right when newer ones come on the other partition
 pub pointers_stay : (label : Label) (index old new : Index) (more dps : List Construct) → dps ≢ [] → index.generation < new.generation
     → PointsBack label index dps (Some old) → PointsBack label index (more ++ dps) (Some new)
 pointers_stay label index old new more dps some less (inl h) = inr (less, names_more label index.back more dps (newest_named label index.back dps some h.1))

@@ -17,11 +17,13 @@ use Rattle.cartridge_meaning.proofs.OneWay.{labels_once}
 
 -- ---- with labels, and without
 
+-- an honest cartridge has honest notes
 pub honest_notes : (c : Cartridge) → IsHonest c → HasHonestNotes c
 honest_notes c h labels has =
     let same : h.labels ≡ labels = labels_once c h.labels labels h.has has in
     subst (λ (l : Labels). IsHonestNote c l.ip Ip × IsHonestNote c l.ip Dp) same (h.ip, h.dp)
 
+-- a cartridge with labels and honest notes is honest
 pub labelled_honest : (c : Cartridge) (labels : Labels) → HasLabels c labels → HasHonestNotes c → IsHonest c
 labelled_honest c labels has notes =
     let both = notes labels has in
@@ -33,9 +35,11 @@ no_note c label part none = record {
   truthful = λ note has uuid vcr. absurd (subst (λ (n : Note). HasValues n note) none has);
 }
 
+-- a cartridge without notes has honest notes
 pub absent_honest : (c : Cartridge) → c.note_ip ≡ Absent → c.note_dp ≡ Absent → HasHonestNotes c
 absent_honest c ip dp labels has = (no_note c labels.ip Ip ip, no_note c labels.ip Dp dp)
 
+-- a cartridge without labels has honest notes
 pub unlabelled_honest : (c : Cartridge) → ((labels : Labels) → ¬ HasLabels c labels) → HasHonestNotes c
 unlabelled_honest c none labels has = absurd (none labels has)
 

@@ -90,6 +90,7 @@ by_values c values h low tells =
       dp = honest_by_values c h.labels.ip Dp values h.dp_note high (λ uuid vcr. (form h.dp, (tells (uuid ∙ h.uuid) (vcr ∙ h.vcr)).1));
     })
 
+-- a note with the cartridge's VCR and its last index is honest
 pub right : (c : Cartridge) → IsClosed c None (note 3 2 5 7) → HasHonestNotes c
 right c h = by_values c (note 3 2 5 7) h (λ uuid. omega arith) (λ uuid vcr. (
   record {
@@ -106,13 +107,16 @@ right c h = by_values c (note 3 2 5 7) h (λ uuid. omega arith) (λ uuid vcr. (
   },
 ))
 
+-- a note with a lower VCR is honest, whatever else it tells
 pub behind : (c : Cartridge) (back : Option Spot) → IsClosed c back (note 2 1 9 7) → HasHonestNotes c
 behind c back h = by_values c (note 2 1 9 7) h (λ uuid. omega arith) (λ uuid vcr. absurd (omega (arith, vcr)))
 
+-- a note of another volume is honest, whatever else it tells
 pub other_volume : (c : Cartridge) (back : Option Spot) → IsClosed c back (note 4 1 9 8) → HasHonestNotes c
 other_volume c back h =
     by_values c (note 4 1 9 8) h (λ uuid. absurd (omega (arith, uuid))) (λ uuid vcr. absurd (omega (arith, uuid)))
 
+-- a note with a greater VCR than the cartridge's is not honest
 pub ahead : (c : Cartridge) → IsClosed c None (note 4 2 5 7) → ¬ HasHonestNotes c
 ahead c h honest =
     ahead_is_dishonest c h.labels.ip Dp (note 4 2 5 7) h.dp_note (sym h.uuid) (omega (arith, h.vcr)) (honest h.labels h.has).1
@@ -123,12 +127,14 @@ told_of : (c : Cartridge) {back : Option Spot} (values : Coherency) (h : IsClose
 told_of c values h uuid vcr honest =
     ((honest h.labels h.has).1.truthful values h.dp_note (uuid ∙ sym h.uuid) (vcr ∙ sym h.vcr)).1
 
+-- a note with the cartridge's VCR and another block is not honest
 pub other_block : (c : Cartridge) → IsClosed c None (note 3 2 6 7) → ¬ HasHonestNotes c
 other_block c h honest =
     let told = told_of c (note 3 2 6 7) h refl refl honest in
     let wrong : ◌≡◌ {A = Option ℕ} (Some 5) (Some 6) = sym (ap last_block (one_index h.dp)) ∙ told.block in
     cc
 
+-- a note with the cartridge's VCR and another generation is not honest
 pub other_generation : (c : Cartridge) → IsClosed c None (note 3 1 5 7) → ¬ HasHonestNotes c
 other_generation c h honest =
     let told = told_of c (note 3 1 5 7) h refl refl honest in
@@ -137,6 +143,7 @@ other_generation c h honest =
     let same : told.index ≡ h.dp.index = cc in
     omega (arith, told.generation, ap (λ (x : Index). x.generation) same, h.dp.generation)
 
+-- a note that tells of an index with a wrong pointer is not honest
 pub wrong_back : (c : Cartridge) → IsClosed c (Some (on_b 4)) (note 3 2 5 7) → ¬ HasHonestNotes c
 wrong_back c h honest =
     let told = told_of c (note 3 2 5 7) h refl refl honest in
@@ -146,6 +153,7 @@ wrong_back c h honest =
     let wrong : None ≡ Some (on_b 4) = sym last.3.back ∙ ap (λ (x : Index). x.back) same ∙ h.dp.back_is in
     cc
 
+-- a blank cartridge has honest notes, whatever they tell
 pub blank : (vcr : ℕ) (ip dp : Note) → HasHonestNotes (record { ip = []; dp = []; vcr = vcr; note_ip = ip; note_dp = dp })
 blank vcr ip dp = unlabelled_honest (record { ip = []; dp = []; vcr = vcr; note_ip = ip; note_dp = dp })
     (λ labels has. let wrong : None ≡ Some (Block has.ip_record.bytes) = has.ip_record.stands.block in cc)

@@ -20,6 +20,7 @@ use Rattle.index_read.proofs.Timed.{whole_told}
 use Rattle.index_read.proofs.Trees.{items_tell}
 use Rattle.cartridge_meaning.proofs.Faulty.{agrees_or_fault}
 
+-- a text is an index's, or stops in some way
 abbrev pub Judged : List ℕ → Type 0
 Judged text = ((index : Index) × IndexText text index) ⊎ ((e : IndexErr) × Stops text e)
 
@@ -41,6 +42,7 @@ judged text valid s w =
     inr (fault_told faulty.0, inr (faulty.0, record { value = a.value; spells = a.spells; index = t.0; tells = tells; told = faulty.1 }, refl)))
     (agrees_or_fault t.0)
 
+-- each text is an index's or stops
 pub index_or_stops : (text : List ℕ) → Judged text
 index_or_stops text = ⊎_elim
     (λ (a : IsAccepted place.Index text). let w = told_whole text a.0 a.1 a.2 in judged text a.1 w.0 w.1)

@@ -62,6 +62,7 @@ none_chosen (Some i) None e = absurd (let wrong : Some i ≡ None = e in cc)
 none_chosen (Some i) (Some d) e = absurd cc
 
 module _ (c : Cartridge) where
+  -- something is found of a cartridge, or some check of a mount fails
   abbrev pub Judged : Type 0
   Judged = Found c ⊎ ((e : MountErr) × MountFault c e)
 
@@ -193,5 +194,6 @@ module _ (c : Cartridge) where
   from_ip_record (inl ip) = from_dp_record ip (known_some_record c.dp)
   from_ip_record (inr none) = inr (errors.Vol1 Ip, none)
 
+  -- of each cartridge something is found, or some check of a mount fails
   pub judged : Judged
   judged = from_ip_record (known_some_record c.ip)

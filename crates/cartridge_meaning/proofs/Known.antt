@@ -11,33 +11,41 @@ use Rattle.index_model.specs.Places.{IsAt, IsFirst}
 abbrev pub Known : Type 0 → Type 0
 Known P = P ⊎ (P → ⊥)
 
+-- what says the same as something that can be decided can be decided
 pub known_by : {P Q : Type 0} → (P → Q) → (Q → P) → Known P → Known Q
 known_by there back (inl p) = inl (there p)
 known_by there back (inr none) = inr (λ q. none (back q))
 
+-- whether two things hold together can be decided where each can
 pub known_both : {P Q : Type 0} → Known P → Known Q → Known (P × Q)
 known_both (inl p) (inl q) = inl (p, q)
 known_both (inl p) (inr none) = inr (λ b. none b.1)
 known_both (inr none) q = inr (λ b. none b.0)
 
+-- whether one of two things holds can be decided where each can
 pub known_either : {P Q : Type 0} → Known P → Known Q → Known (P ⊎ Q)
 known_either (inl p) q = inl (inl p)
 known_either (inr none) (inl q) = inl (inr q)
 known_either (inr none) (inr never) = inr (λ b. ⊎_elim none never b)
 
+-- whether something does not hold can be decided where it can
 pub known_not : {P : Type 0} → Known P → Known (P → ⊥)
 known_not (inl p) = inr (λ none. none p)
 known_not (inr none) = inl none
 
+-- whether two numbers are equal can be decided
 pub known_eq : (a b : ℕ) → Known (a ≡ b)
 known_eq a b = cases_eq a b
 
+-- whether a number is less than another can be decided
 pub known_lt : (a b : ℕ) → Known (a < b)
 known_lt a b = ⊎_elim (λ less. inl less) (λ more. inr (λ less. omega (arith, less, more))) (cases_lt a b)
 
+-- whether a number is at most another can be decided
 pub known_le : (a b : ℕ) → Known (a ≤ b)
 known_le a b = ⊎_elim (λ less. inr (λ le. omega (arith, less, le))) (λ le. inl le) (cases_lt b a)
 
+-- whether two texts are the same can be decided
 pub known_text : (xs ys : List ℕ) → Known (xs ≡ ys)
 known_text xs ys = by (bytes_eq xs ys) refl
   where
@@ -53,6 +61,7 @@ FirstBelow P n = (at : ℕ) × (at < n) × IsFirst P at
 abbrev pub NoneBelow : (ℕ → Type 0) → ℕ → Type 0
 NoneBelow P n = (k : ℕ) → k < n → P k → ⊥
 
+-- below a number something holds at a first place, or at none
 pub first_below : (P : ℕ → Type 0) → ((k : ℕ) → Known (P k)) → (n : ℕ) → FirstBelow P n ⊎ NoneBelow P n
 first_below P known zero = inr (λ k less h. omega (arith, less))
 first_below P known (suc n) = by (first_below P known n) (known n)
@@ -65,14 +74,17 @@ first_below P known (suc n) = by (first_below P known n) (known n)
         (λ behind. let same : k ≡ n = omega (arith, less, behind) in not_here (subst P same h))
         (cases_lt k n))
 
+-- whether something holds at a place below a number can be decided
 pub some_below : (P : ℕ → Type 0) → ((k : ℕ) → Known (P k)) → (n : ℕ) → Known ((k : ℕ) × (k < n) × P k)
 some_below P known n = ⊎_elim (λ found. inl (found.0, found.1, found.2.here)) (λ none. inr (λ some. none some.0 some.1 some.2)) (first_below P known n)
 
 -- ---- at a place of a list
 
+-- at a place of a list stands something of which this holds
 abbrev pub AtPlace : {X : Type 0} → List X → ℕ → (X → Type 0) → Type 0
 AtPlace {X} xs at P = (x : X) × IsAt xs at x × P x
 
+-- whether something of a kind stands at a place of a list can be decided
 pub known_at : {X : Type 0} (xs : List X) (at : ℕ) (P : X → Type 0) → ((x : X) → Known (P x)) → Known (AtPlace xs at P)
 known_at {X} xs at P known = by (slice_get xs at) refl
   where

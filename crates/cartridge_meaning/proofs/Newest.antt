@@ -31,17 +31,20 @@ picked i d x false lt e =
     let less : i.generation ≤ d.generation = grind (arith, nat_tests) in
     record { ip = omega (arith, generation, less); dp = omega (arith, generation); tie = λ t. sym same }
 
+-- the chosen index has no lower generation than the index partition's last
 pub newest_ip : (on_ip on_dp : Option Index) (x : Index) → chosen on_ip on_dp ≡ Some x → IfSome on_ip (λ i. i.generation ≤ x.generation)
 newest_ip None on_dp x e = tt
 newest_ip (Some i) None x e = let same : i ≡ x = cc in omega (arith, ap (λ (y : Index). y.generation) same)
 newest_ip (Some i) (Some d) x e = (picked i d x (ltb d.generation i.generation) refl e).ip
 
+-- the chosen index has no lower generation than the data partition's last
 pub newest_dp : (on_ip on_dp : Option Index) (x : Index) → chosen on_ip on_dp ≡ Some x → IfSome on_dp (λ d. d.generation ≤ x.generation)
 newest_dp None None x e = tt
 newest_dp None (Some d) x e = let same : d ≡ x = cc in omega (arith, ap (λ (y : Index). y.generation) same)
 newest_dp (Some i) None x e = tt
 newest_dp (Some i) (Some d) x e = (picked i d x (ltb d.generation i.generation) refl e).dp
 
+-- of two last indexes of one generation the data partition's is chosen
 pub tie_is_dp : (on_ip on_dp : Option Index) (x d : Index) → chosen on_ip on_dp ≡ Some x → on_dp ≡ Some d → d.generation ≡ x.generation → x ≡ d
 tie_is_dp None on_dp x d e is t = let both : Some x ≡ Some d = sym e ∙ is in cc
 tie_is_dp (Some i) None x d e is t = absurd (let wrong : None ≡ Some d = is in cc)
@@ -71,6 +74,7 @@ on_ip_stands label (k ∷ older) dps on_dp x place h e =
     let there : ◌≡◌ {A = Place} (record { part = Ip; pos = k.mark + 1 }) place = cc in
     ap (λ (y : Index). y.here) same ∙ h.3.here ∙ ap (spot_at label) there
 
+-- the chosen index says that it stands where it stands
 pub stands_there : (c : Cartridge) (label : Label) (on_ip on_dp : Option Index) (x : Index) (place : Place)
     → IsLastOnDp label (indexes_of c.dp) on_dp → IsLastOnIp label (indexes_of c.ip) (indexes_of c.dp) on_dp on_ip
     → chosen on_ip on_dp ≡ Some x → chosen_place on_ip on_dp c ≡ Some place → x.here ≡ spot_at label place

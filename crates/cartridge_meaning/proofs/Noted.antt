@@ -22,15 +22,18 @@ last_once c label Ip x y h k =
     let both : Some x ≡ Some y = last_ip_once label (indexes_of c.ip) (indexes_of c.dp) k.0 (Some x) (Some y) here k.2 in
     cc
 
+-- two notes that tell of a partition's last index tell one generation
 pub generation_told : (c : Cartridge) (label : Label) (part : Part) (note other : Coherency) → TellsOfLast c label part note → TellsOfLast c label part other
     → note.generation ≡ other.generation
 generation_told c label part note other h k =
     h.generation ∙ ap (λ (x : Index). x.generation) (last_once c label part h.index k.index h.last k.last) ∙ sym k.generation
 
+-- two notes that tell of a partition's last index tell one block
 pub block_told : (c : Cartridge) (label : Label) (part : Part) (note other : Coherency) → TellsOfLast c label part note → TellsOfLast c label part other
     → note.block ≡ other.block
 block_told c label part note other h k = let both : Some note.block ≡ Some other.block = sym h.block ∙ k.block in cc
 
+-- a note of the volume with a greater VCR than the cartridge's is not honest
 pub ahead_is_dishonest : (c : Cartridge) (label : Label) (part : Part) (note : Coherency) → HasValues (note_of part c) note → note.uuid ≡ label.uuid
     → c.vcr < note.vcr → ¬ IsHonestNote c label part
 ahead_is_dishonest c label part note has uuid ahead h = omega (arith, ahead, h.not_ahead note has uuid)
@@ -40,6 +43,7 @@ noted c label other part same h k =
     let uuid : k.0.uuid ≡ label.uuid = k.3 ∙ ap (λ (l : Label). l.uuid) (sym same) in
     record { note = k.0; has = k.1; vcr = k.2; uuid = uuid; tells = (h.truthful k.0 k.1 uuid k.2).1 }
 
+-- on an honest cartridge coherent notes tell of the last indexes
 pub honest_noted : (c : Cartridge) (l : Labels) → HasLabels c l → IsHonest c → IsCoherent c → AreNoted c l.ip
 honest_noted c l has h k =
     let here : h.labels ≡ l = labels_once c h.labels l h.has has in
@@ -49,6 +53,7 @@ honest_noted c l has h k =
     let same : l.ip ≡ k.labels.ip = ap (λ (m : Labels). m.ip) there in
     record { ip = noted c l.ip k.labels.ip Ip same ip k.ip; dp = noted c l.ip k.labels.ip Dp same dp k.dp }
 
+-- notes that tell of the last indexes are coherent
 pub noted_coherent : (c : Cartridge) (l : Labels) → HasLabels c l → AreNoted c l.ip → IsCoherent c
 noted_coherent c l has h = record {
   labels = l;

@@ -100,9 +100,11 @@ on_ip_at k = record { part = Ip; pos = first_of k }
 -- ---- the chain
 
 module _ (c : Cartridge) where
+  -- the indexes of the index partition, the newest first
   abbrev pub ips : List Construct
   ips = indexes_of c.ip
 
+  -- the indexes of the data partition, the newest first
   abbrev pub dps : List Construct
   dps = indexes_of c.dp
 
@@ -178,6 +180,7 @@ module _ (c : Cartridge) where
   abbrev pub FromLabels : MountErr → Type 0
   FromLabels = Then (HasSomeLabel c.ip) (Lacks (errors.Label Ip) (HasSomeLabel c.ip)) (Then (HasSomeLabel c.dp) (Lacks (errors.Label Dp) (HasSomeLabel c.dp)) FromVolume)
 
+  -- the checks of a mount in their order, each where those before it hold
   abbrev pub Chain : MountErr → Type 0
   Chain = Then (HasSomeRecord c.ip) (Lacks (errors.Vol1 Ip) (HasSomeRecord c.ip)) (Then (HasSomeRecord c.dp) (Lacks (errors.Vol1 Dp) (HasSomeRecord c.dp)) FromLabels)
 
@@ -411,8 +414,10 @@ module _ (c : Cartridge) where
   told_chain (errors.Drive counts) h = absurd h
   told_chain errors.NoMemory h = absurd h
 
+  -- one fault of a cartridge is told at most
   pub one_fault : (e f : MountErr) → MountFault c e → MountFault c f → e ≡ f
   one_fault e f h k = chain_once e f (told_chain e h) (told_chain f k)
 
+  -- of a cartridge of which all is found no fault is told
   pub found_no_fault : (e : MountErr) → Found c → MountFault c e → ⊥
   found_no_fault e f h = found_none f e (told_chain e h)

@@ -45,6 +45,7 @@ module _ (c : Cartridge) (f g : Found c) where
     has_dp = h.has_dp;
   }
 
+-- a cartridge is mounted in one way
 pub mounted_once : (c : Cartridge) (m n : Mounted) → Mounts c m → Mounts c n → m ≡ n
 mounted_once c m n h k =
     let index = h.index ∙ same_index c h.found k.found ∙ sym k.index in
@@ -75,6 +76,7 @@ mounted_once c m n h k =
       noted = noted i;
     }
 
+-- the label of a mount is that of the index partition
 pub mounted_label : (c : Cartridge) (m : Mounted) → Mounts c m → m.label.location ≡ m.label.index
 mounted_label c m h =
     let place : h.found.labels.ip.location ≡ h.found.labels.ip.index = h.found.forms.has.one_volume.places.in_index in
@@ -93,6 +95,7 @@ last_of : (items : List Item) (ks : List Construct) → EndsWithLast items ks �
 last_of items [] h = absurd h
 last_of items (k ∷ older) h = record { k = k; older = older; are = refl; ends = h }
 
+-- a cartridge with which a close has nothing to do is consistent
 pub done_consistent : (c : Cartridge) (f : Found c) → IsDpDone c f → IsIpDone c f → IsConsistent c
 done_consistent c f h k =
     let dp = last_of c.dp (indexes_of c.dp) h.ends in
@@ -140,8 +143,10 @@ chosen_right label ips dps (Some i) (Some d) x dp ip e = by (ltb d.generation i.
     by true e = ip_right label ips dps (Some d) x (subst (IsLastOnIp label ips dps (Some d)) e ip)
     by false e = dp_right label dps x (subst (IsLastOnDp label dps) e dp)
 
+-- the index that is chosen is valid
 pub found_valid : (c : Cartridge) (f : Found c) → IsValid f.index
 found_valid c f = (chosen_right f.labels.ip (indexes_of c.ip) (indexes_of c.dp) f.on_ip f.on_dp f.index f.dp_last f.ip_last f.choice).valid
 
+-- the index that is chosen is of the volume
 pub found_uuid : (c : Cartridge) (f : Found c) → f.index.uuid ≡ f.labels.ip.uuid
 found_uuid c f = (chosen_right f.labels.ip (indexes_of c.ip) (indexes_of c.dp) f.on_ip f.on_dp f.index f.dp_last f.ip_last f.choice).uuid

@@ -59,6 +59,7 @@ module _ (tape : Tape) (letters : Letters) (size : ℕ) where
             let there = there_too m o b c p n e in
             ap (option_map (plain_node_of tape)) e ∙ ap (λ (k : plain_node.Node). Some k) there.2 ∙ sym (ap (option_map (plain_node_of tape)) there.1)
 
+  -- an index has one plain tree
   pub tree_once : (index : Index) (t u : FileTree) → IsTreeOf letters size index t → IsTreeOf letters size index u → plain_of tape t ≡ plain_of tape u
   tree_once index t u h k =
       let highest = h.highest ∙ sym k.highest in

@@ -30,6 +30,7 @@ one_moment : (m n : Moment) → civil_of m ≡ civil_of n → m ≡ n
 unfolding time_text
 one_moment m n e = time_text_injective m n (ap civil_text e)
 
+-- labels with the same value are one
 pub one_label : (l m : Label) → label_of l ≡ label_of m → l ≡ m
 one_label l m e =
     let creator = ap (λ (v : LabelValue). v.creator) e in
@@ -65,12 +66,14 @@ record_once items v w h k =
     one_record h.bytes v w h.spelled
     (subst (λ (bytes : List ℕ). IsRecord bytes w) (one_block items 0 k.bytes h.bytes k.stands h.stands) k.spelled)
 
+-- a partition has one label at most
 pub label_once : (items : List Item) (l m : LabelValue) → HasLabel items l → HasLabel items m → l ≡ m
 label_once items l m h k =
     let same : k.bytes ≡ h.bytes = one_block items 2 k.bytes h.bytes k.stands h.stands in
     let other = subst (λ (bytes : List ℕ). LabelText bytes m) same k.spelled in
     one_value h.bytes l m h.spelled other
 
+-- a cartridge has one pair of records and labels at most
 pub labels_once : (c : Cartridge) (a b : Labels) → HasLabels c a → HasLabels c b → a ≡ b
 labels_once c a b h k =
     let ip_record = record_once c.ip a.ip_record b.ip_record h.ip_record k.ip_record in
@@ -81,11 +84,13 @@ labels_once c a b h k =
 
 -- ---- the last indexes
 
+-- the last index of the data partition reads as one index
 pub last_dp_once : (label : Label) (dps : List Construct) (a b : Option Index) → IsLastOnDp label dps a → IsLastOnDp label dps b → a ≡ b
 last_dp_once label [] a b h k = h ∙ sym k
 last_dp_once label (q ∷ older) a b h k =
     h.1 ∙ ap (λ (x : Index). Some x) (one_index_text (text_of q) h.0 k.0 h.2.text k.2.text) ∙ sym k.1
 
+-- the last index of the index partition reads as one index
 pub last_ip_once : (label : Label) (ips dps : List Construct) (on_dp a b : Option Index)
     → IsLastOnIp label ips dps on_dp a → IsLastOnIp label ips dps on_dp b → a ≡ b
 last_ip_once label [] dps on_dp a b h k = h ∙ sym k
@@ -95,20 +100,24 @@ last_ip_once label (q ∷ older) dps on_dp a b h k =
 -- ---- what is found
 
 module _ (c : Cartridge) (a b : Found c) where
+  -- whatever is found of a cartridge, the labels are the same
   pub same_labels : a.labels ≡ b.labels
   same_labels = labels_once c a.labels b.labels a.forms.has b.forms.has
 
+  -- whatever is found of a cartridge, the data partition's last index is the same
   pub same_on_dp : a.on_dp ≡ b.on_dp
   same_on_dp =
       last_dp_once b.labels.ip (indexes_of c.dp) a.on_dp b.on_dp
       (subst (λ (l : Labels). IsLastOnDp l.ip (indexes_of c.dp) a.on_dp) same_labels a.dp_last) b.dp_last
 
+  -- whatever is found of a cartridge, the index partition's last index is the same
   pub same_on_ip : a.on_ip ≡ b.on_ip
   same_on_ip =
       let here = subst (λ (l : Labels). IsLastOnIp l.ip (indexes_of c.ip) (indexes_of c.dp) a.on_dp a.on_ip) same_labels a.ip_last in
       let there = subst (λ (o : Option Index). IsLastOnIp b.labels.ip (indexes_of c.ip) (indexes_of c.dp) o a.on_ip) same_on_dp here in
       last_ip_once b.labels.ip (indexes_of c.ip) (indexes_of c.dp) b.on_dp a.on_ip b.on_ip there b.ip_last
 
+  -- whatever is found of a cartridge, the chosen index is the same
   pub same_index : a.index ≡ b.index
   same_index =
       let choice : Some a.index ≡ Some b.index =
@@ -126,14 +135,17 @@ module _ (c : Cartridge) (facts others : Carried) (tree other : Tree) (generatio
   index_is : a.found.index ≡ b.found.index
   index_is = same_index c a.found b.found
 
+  -- a cartridge reads with one set of facts that are carried over
   pub same_facts : facts ≡ others
   same_facts = a.facts_are ∙ ap carried index_is ∙ sym b.facts_are
 
+  -- a cartridge reads as one tree
   pub same_tree : tree ≡ other
   same_tree =
       let here = subst (λ (l : Labels). IsTreeOf l.ip c a.found.index tree) (same_labels c a.found b.found) a.tree_is in
       let there = subst (λ (x : Index). IsTreeOf b.found.labels.ip c x tree) index_is here in
       tree_is_once c b.found.labels.ip b.found.index tree other there b.tree_is
 
+  -- a cartridge reads as of one generation
   pub same_generation : generation ≡ another
   same_generation = a.generation_is ∙ ap (λ (x : Index). x.generation) index_is ∙ sym b.generation_is

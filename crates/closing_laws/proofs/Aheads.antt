@@ -129,5 +129,6 @@ module _ {D : Type 0} (drive : Ghosts D) where
   closes p limits v none is =
       none (has_by (space_now limits v).changed v.fixed.mounted.dp_done (space_now limits v).admitted is)
 
+  -- no index is ahead on the index partition where none is due on the data partition
   pub none_is_ahead : NoneIsAhead drive
   none_is_ahead = record { begins = begins; submitted = submitted; turned = turned; voided = voided; closes = closes }

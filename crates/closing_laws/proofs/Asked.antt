@@ -48,12 +48,15 @@ module _ (g : Given) (on : Option ℕ) (history : List Placed) where
 
 -- and of what a submission does
 module _ {D : Type 0} (limits : Limits) (old new : View D) where
+  -- files may go to the index partition at the end of the history
   abbrev pub on_here : Bool
   on_here = is_on (facts_of old.fixed.mounted) old.on (length old.history)
 
+  -- the rules by which the volume's space admits
   abbrev pub rules_here : Rules
   rules_here = rules (given_by limits old)
 
+  -- the ops that a placement adds are those of what it asks, and leave that space
   pub ask_made : AddsOps limits old new → new.fixed ≡ old.fixed → new.on ≡ old.on → GoesOnBy old new
       → (admitted : List Op) × (new.ops ≡ old.ops ++ admitted)
       × IsAsk rules_here on_here (space_now limits old) (space_now limits new) admitted
@@ -109,6 +112,7 @@ still_ask v on s change same without = absurd (let wrong : true ≡ false = same
 still_ask v on s (store wanted bytes) same without = absurd (let wrong : true ≡ false = same in cc)
 still_ask v on s (index text) same without = absurd (let wrong : true ≡ false = without in cc)
 
+-- where nothing changed and no index was admitted, nothing was asked
 pub unasked_by : (v : Rules) (on : Bool) (old new : Space) (asked : List Op) → IsAsk v on old new asked
     → new.changed ≡ false → new.admitted ≡ false → IsUnasked old asked
 unasked_by v on old new asked its same without =
@@ -118,6 +122,7 @@ unasked_by v on old new asked its same without =
 
 -- ---- a step, and a write that is placed void behind it
 
+-- a void placement leaves what stands
 pub void_standing : {D : Type 0} (limits : Limits) (old new : View D) (added : List Event) (placed : Placed)
     → new.fixed ≡ old.fixed → new.history ≡ old.history ++ placed ∷ [] → placed.fate ≡ fates.Void
     → new.on ≡ on_after old added → standing_now limits new ≡ standing_now limits old
@@ -128,6 +133,7 @@ void_standing {D} limits old new added placed fixed history fate on =
     (standing_now limits mid) placed fate
     ∙ standings_go_on.stepped limits old mid added refl refl on
 
+-- a void placement leaves the space
 pub void_space : {D : Type 0} (limits : Limits) (old new : View D) (added : List Event) (placed : Placed)
     → new.fixed ≡ old.fixed → new.history ≡ old.history ++ placed ∷ [] → placed.fate ≡ fates.Void
     → new.on ≡ on_after old added → space_now limits new ≡ space_now limits old
@@ -160,6 +166,7 @@ module _ {D : Type 0} (limits : Limits) (old new : View D) where
   by_admitted asked are (before was) = inl (inr was)
   by_admitted asked are (now text is) = inr (text, are ∙ ap (λ (l : List Op). old.ops ++ l) is)
 
+  -- where an index is on the data partition it was there before, or this placement asks for it
   pub given_one : AddsOps limits old new → new.fixed ≡ old.fixed → new.on ≡ old.on → GoesOnBy old new
       → HasDpIndex new (space_now limits new) → IsGiven
   given_one adds fixed on goes (inl done) = inl (inl (was_done fixed done))

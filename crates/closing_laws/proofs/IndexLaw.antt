@@ -271,6 +271,7 @@ module _ {D : Type 0} where
       Tells label tree text =
           IsTold label (carried old.fixed.mounted.index) tree (cartridge_on planned) (space_now limits old) text
 
+      -- the text of a sync tells the tree that stands when it is placed
       pub told_synced : (text : List ℕ) → IsSynced g (standing_now limits old) placed text
           → Tells old.fixed.mounted.label (standing_now limits old).tree text
       told_synced text is =
@@ -349,6 +350,7 @@ module _ {D : Type 0} where
   voided planned limits old new added placed was fixed history fate on =
       same_indexed planned limits old new was fixed (void_standing limits old new added placed fixed history fate on)
 
+-- the last index of the data partition tells the tree of the history while nothing changes
 pub indexes_stay : {D : Type 0} → IndexesStay D
 indexes_stay = record {
   begins = begins;

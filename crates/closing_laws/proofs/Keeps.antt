@@ -253,6 +253,7 @@ module _ {D : Type 0} (drive : Ghosts D) where
             (fine_cartridges_stand volume trees ack.place image (held.held short image left)).0;
       }
 
+  -- a volume stays safe over each command of its close
   pub closes_are_safe : ClosesAreSafe drive
   closes_are_safe = record {
     begins = begins;

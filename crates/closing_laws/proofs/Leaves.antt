@@ -17,6 +17,7 @@ no_jobs [] are = refl
 no_jobs (job ∷ jobs) are = absurd (let wrong : job.op ∷ map op_of jobs ≡ [] = are in cc)
 
 module _ {D : Type 0} (drive : Ghosts D) where
+  -- where all ops of a close are done, the cartridge stands for the tree of the whole history
   pub closed_stand : ClosedVolumesStand drive
   closed_stand planned space rules text on_ip v d held c has due none unchanged size told ip dp =
       let none_left : c.jobs ≡ [] = no_jobs c.jobs c.ops_are in

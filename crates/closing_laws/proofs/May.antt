@@ -58,5 +58,6 @@ module _ {D : Type 0} (drive : Ghosts D) where
       fine_allowed planned v (least c.made.base) image a
       ((kept_gives drive).note_may x d held before image part note values kept (rest held told) has vcr tells leaves within)
 
+  -- the first op that a close has left may be done, and behind the last a note may be written
   pub closes_may : ClosesMay drive
   closes_may = record { op = may_do; note = may_note }

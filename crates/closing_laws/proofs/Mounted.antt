@@ -118,9 +118,11 @@ module _ (c : Cartridge) (f : Found c) where
   dp_long : length on.dp ≡ dp_end c
   dp_long = length-take-le (dp_end c) c.dp (omega (arith, dp_within, front_within c.dp))
 
+  -- up to its end a mounted data partition has the indexes that the cartridge has
   pub dp_indexes : indexes_of on.dp ≡ indexes_of c.dp
   dp_indexes = cut_keeps c.dp (dp_end c) (omega arith)
 
+  -- both partitions of a mounted volume may go on behind their labels and data
   pub mounted_open : (label : Label) → label ≡ f.labels.ip → IsOpen label (mounted_items c)
   mounted_open label is =
       let cut = cut_at_end_ip c.ip (is_good c.ip f.forms.ip) in
@@ -143,6 +145,7 @@ module _ (c : Cartridge) (f : Found c) where
         };
       }
 
+  -- an index partition with one index has none before its end
   pub mounted_alone : HasOneIndex c → indexes_of on.ip ≡ []
   mounted_alone one =
       let good = is_good c.ip f.forms.ip in
@@ -178,6 +181,7 @@ module _ (c : Cartridge) (f : Found c) where
     within_there = subst (λ (n : ℕ). AllByRecursion (FitsNode f.labels.ip n (length on.dp)) f.index.nodes) (sym ip_long)
         (subst (λ (n : ℕ). AllByRecursion (FitsNode f.labels.ip (ip_end c) n) f.index.nodes) (sym dp_long) f.within)
 
+    -- a data partition that ends with the newest index ends with the tree that is mounted
     pub mounted_ends : (label : Label) (tree : Tree) (s : Space) → label ≡ f.labels.ip → f.index.generation ≡ s.newest
         → IsTreeOf f.labels.ip c f.index tree → EndsWithTree label (carried f.index) tree s (mounted_items c)
     mounted_ends label tree s is newest tree_is = record {

@@ -189,6 +189,7 @@ can_tell limits m g st is near on_ip on_dp =
     close_to : (end cap same : ℕ) → end ≤ cap → cap ≡ same → same ≤ most_positions → end + 1 ≤ 2 ^ 62
     close_to end cap same within is most = omega (arith, within, is, most)
 
+-- the index of a close can be told
 pub closes_can_tell : {D : Type 0} (drive : Ghosts D) → ClosesCanTell drive
 closes_can_tell drive = record {
   near = λ first v limits mount stays. near_from (seen_by drive first) v limits stays [] v.history refl

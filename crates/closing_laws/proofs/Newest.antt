@@ -74,22 +74,27 @@ module _ (label : Label) (facts : Carried) (tree : Tree) (planned : Items) (s : 
   abbrev items : List Item
   items = with_construct (planned Dp) bs
 
+  -- the index of a sync has a block at least
   pub some_new : bs ≢ []
   some_new = some_blocks v.block_size text size its.some
 
   items_are : with_ops asked planned Dp ≡ items
   items_are = indexed_dp label planned open_ends v on s text
 
+  -- with the index of a sync the data partition has one index more
   pub indexes_are : indexes_of (with_ops asked planned Dp) ≡ new_construct (planned Dp) bs ∷ indexes_of (planned Dp)
   indexes_are = ap indexes_of items_are
       ∙ ap (λ (c : Content). c.constructs) (construct_content (planned Dp) bs open_ends.dp some_new)
 
+  -- the space's end of the data partition is behind what is planned there
   pub end_dp_is : s.ends.dp ≡ length (planned Dp)
   end_dp_is = ap (λ (e : Ends). e.dp) ends
 
+  -- the space's end of the index partition is behind what is planned there
   pub end_ip_is : s.ends.ip ≡ length (planned Ip)
   end_ip_is = ap (λ (e : Ends). e.ip) ends
 
+  -- the space behind the sync has the place of its index as the last one
   pub last_new : (space.after v on s (index text)).last_dp ≡ last_block (indexes_of (with_ops asked planned Dp))
   last_new = ap (λ (n : ℕ). Some (n + 1)) end_dp_is ∙ ap last_block (sym indexes_are)
 
@@ -119,16 +124,19 @@ module _ (label : Label) (facts : Carried) (tree : Tree) (planned : Items) (s : 
   pub reads_new : IsLastOnDp label (indexes_of (with_ops asked planned Dp)) (Some its.told)
   reads_new = subst (λ (l : List Item). IsLastOnDp label (indexes_of l) (Some its.told)) (sym items_are) reads_put
 
+  -- what the index names lies before the ends of what is planned
   pub within_new : AllByRecursion
       (FitsNode label (length (with_ops asked planned Ip)) (length (with_ops asked planned Dp))) its.told.nodes
   within_new = nodes_further label s.ends.ip s.ends.dp (length (with_ops asked planned Ip))
       (length (with_ops asked planned Dp)) further_ip further_dp its.told.nodes its.within
 
+  -- the index tells the tree also of what is planned behind it
   pub tree_new : IsTreeOf label (cartridge_on (with_ops asked planned)) its.told tree
   tree_new = tree_stays label s.ends.ip s.ends.dp differ (cartridge_on planned) (cartridge_on (with_ops asked planned))
       its.told tree its.within (sym (take-append-le s.ends.ip (planned Ip) (items_by Ip asked) long_ip))
       (sym (take-append-le s.ends.dp (planned Dp) (items_by Dp asked) long_dp)) its.tree_is
 
+  -- with the index of a sync the data partition ends with the tree that it tells
   pub ends_with_told : EndsWithTree label facts tree (space.after v on s (index text)) (with_ops asked planned)
   ends_with_told = record {
     index = its.told;

@@ -46,6 +46,7 @@ run_items Ip Dp (b ∷ bs) pos = run_items Ip Dp bs (pos + 1)
 run_items Dp Ip (b ∷ bs) pos = run_items Dp Ip bs (pos + 1)
 run_items Dp Dp (b ∷ bs) pos = ap (λ (l : List Item). Block b ∷ l) (run_items Dp Dp bs (pos + 1))
 
+-- the puts of bytes put their blocks on their own partition alone
 pub put_items : (part on : Part) (size pos : ℕ) (bytes : List ℕ)
     → items_by part (puts size on pos bytes) ≡ blocks_on part on (blocks_of size bytes)
 put_items part on size pos bytes =
@@ -148,26 +149,32 @@ module _ (label : Label) (planned : Items) (open_ends : IsOpen label planned) wh
     data_on part r = subst (λ (l : List Item). GoesOn (planned part) l) (sym (put_items part on size pos bytes))
         (goes_on part on (planned part) (blocks_of size bytes) r)
 
+    -- with stored bytes both partitions may go on
     pub stored_open : IsOpen label (with_ops (puts size on pos bytes) planned)
     stored_open = goes_open label planned open_ends (puts size on pos bytes) (data_on Ip open_ends.ip).ready
         (data_on Dp open_ends.dp).ready
 
+    -- stored bytes leave the indexes of the data partition
     pub stored_same : indexes_of (with_ops (puts size on pos bytes) planned Dp) ≡ indexes_of (planned Dp)
     stored_same = (data_on Dp open_ends.dp).same
 
+    -- stored bytes leave the indexes of the index partition
     pub stored_ip : indexes_of (with_ops (puts size on pos bytes) planned Ip) ≡ indexes_of (planned Ip)
     stored_ip = (data_on Ip open_ends.ip).same
 
   -- with an index
   module _ (v : Rules) (on : Bool) (s : Space) (text : List ℕ) where
+    -- the ops of an index put an index construct on the data partition
     pub indexed_dp : with_ops (ops_of v on s (index text)) planned Dp
         ≡ with_construct (planned Dp) (blocks_of v.block_size text)
     indexed_dp = ap (λ (l : List Item). planned Dp ++ l) (index_dp v on s text)
         ∙ sym (construct_is (planned Dp) (blocks_of v.block_size text))
 
+    -- the ops of an index put nothing on the index partition
     pub indexed_ip : with_ops (ops_of v on s (index text)) planned Ip ≡ planned Ip
     indexed_ip = ap (λ (l : List Item). planned Ip ++ l) (index_ip v on s text) ∙ append-nil (planned Ip)
 
+    -- with an index both partitions may go on
     pub indexed_open : blocks_of v.block_size text ≢ [] → IsOpen label (with_ops (ops_of v on s (index text)) planned)
     indexed_open some = goes_open label planned open_ends (ops_of v on s (index text))
         (subst IsReady (sym indexed_ip) open_ends.ip)

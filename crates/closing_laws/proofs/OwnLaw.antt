@@ -523,5 +523,6 @@ module _ {D : Type 0} where
       (agree_after (facts_of old.fixed.mounted) old added)))
       (ap (λ (s : Standing). s.space) (void_standing limits old new added placed fixed history fate on)) planned refl
 
+-- the indexes that a history has admitted are the top of the data partition
 pub own_indexes_stay : {D : Type 0} → OwnIndexesStay D
 own_indexes_stay = record { begins = begins; submitted = submitted; turned = turned; voided = voided }

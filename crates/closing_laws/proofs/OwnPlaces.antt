@@ -142,6 +142,7 @@ module _ (g : Given) (on : Option ℕ) (history : List Placed) (p : Placed) wher
         ∙ ap (λ (c : Call). (after_done g (is_on g.mounted on (length history)) st c p.at).tree) its.0;
   }
 
+  -- what a placement asks of the tape: an index just of a sync before which the tree had changed
   pub own_ask : IsOwnAsk g on history p
   own_ask = own_by p.fate (call_at g.calls p) refl refl
 

@@ -159,6 +159,7 @@ module _ (g : Given) (on : Option ℕ) where
   unchanged v ip_on s text true is = refl
   unchanged v ip_on s text false is = is
 
+  -- the newest index behind a sync that is done tells the tree that the sync covers
   pub sync_covered : (front : List Placed) (p : Placed) (rest : List Placed) → p.fate ≡ fates.Done
       → call_at g.calls p ≡ Some Sync → own_places g on (front ++ p ∷ []) ≢ []
       → IsCovered g on (front ++ p ∷ rest) (length front)

@@ -173,6 +173,7 @@ module _ {D : Type 0} (drive : Ghosts D) where
         (did.0, did.1 ∙ was.1 ∙ sym (same_first old new step.fixed));
   }
 
+  -- where no index is due on the data partition, it ends where it is planned to
   pub tapes_stay_ready : TapesStayReady drive
   tapes_stay_ready = record {
     begins = begins;

@@ -70,6 +70,7 @@ module _ {D : Type 0} (drive : Ghosts D) where
       at_first old new step.fixed
       (steps_leave planned old new added step step.driven (ready.untouched changed admitted).0) (was changed admitted)
 
+  -- a crash leaves no more than at the start as long as nothing was asked of the tape
   pub volumes_rest : VolumesRest drive
   volumes_rest = record {
     begins = λ limits fixed next same without image left. left;

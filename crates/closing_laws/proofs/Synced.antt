@@ -26,6 +26,7 @@ by_change false due text is = absurd (let wrong : nothing ≡ index text = is in
 abbrev IsSync : Given → Standing → Moment → List ℕ → Call → Type 0
 IsSync g st at text call = (call ≡ Sync) × (st.space.changed ≡ true) × (text ≡ sync_text g st at)
 
+-- only a sync before which something changed asks for an index
 pub only_syncs : (g : Given) (st : Standing) (call : Call) (at : Moment) (text : List ℕ)
     → ask_of g st call at ≡ index text
     → IsSync g st at text call

@@ -106,6 +106,7 @@ module _ (c : Cartridge) (g : Given) (on : Bool) (st : Standing) (s : Stocked) (
         );
       }
 
+-- the index that a close writes on the index partition is due
 pub close_due : {D : Type 0} → IndexesOfClosesAreDue D
 close_due planned limits v on st s at valid label_is held tree_is good behind can fits =
     let g = given_by limits v in

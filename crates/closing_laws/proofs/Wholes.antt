@@ -50,12 +50,14 @@ rests_none : (part : Part) (front behind : List Op) → items_by part (front ++ 
 rests_none part front behind none =
     right_nil (items_by part front) (items_by part behind) (sym (ops_append part front behind) ∙ none)
 
+-- a partition stays whole as ops are added
 pub whole_grows : (part : Part) (planned : Items) (asked more : List Op) (held : Cartridge)
     → IsWhole part planned asked held → IsWhole part (with_ops more planned) (asked ++ more) held
 whole_grows part planned asked more held whole none =
     whole (fronts_none part asked more none) ∙ sym (append-nil (planned part))
     ∙ ap (λ (l : List Item). planned part ++ l) (sym (rests_none part asked more none))
 
+-- with the ops of an index the data partition is whole
 pub whole_indexed : (planned : Items) (asked : List Op) (rules : Rules) (on : Bool) (space : Space) (text : List ℕ)
     (held : Cartridge) → IsWhole Dp planned (asked ++ ops_of rules on space (index text)) held
 whole_indexed planned asked rules on space text held none =
@@ -105,6 +107,7 @@ module _ (part : Part) (made : Items) (old new : Cartridge) where
   op_whole (ops.Flush at) end is reads w well whole =
       ap (λ (c : Cartridge). items_of part c) w ∙ whole refl ∙ sym (append-nil (made part))
 
+-- a partition stays whole when the first op is done
 pub whole_done : (part : Part) (planned : Items) (op : Op) (later : List Op) (end : StepDone) (old new : Cartridge)
     → IsOnWay planned (op ∷ later) old → AfterOp op end old new → IsWell end → IsWhole part planned (op ∷ later) old
     → IsWhole part planned later new
@@ -133,6 +136,7 @@ failed_same part (ops.Put at bytes) counts old new w none = rest_same part at.pa
 failed_same part (ops.Mark at) counts old new w none = rest_same part at.part Mark old new w.rest none
 failed_same part (ops.Flush at) counts old new w none = ap (λ (c : Cartridge). items_of part c) w
 
+-- a partition stays whole when the first op failed
 pub whole_failed : (part : Part) (planned : Items) (op : Op) (later : List Op) (counts : Twin) (old new : Cartridge)
     → AfterOp op (outcome.Failed counts) old new → IsWhole part planned (op ∷ later) old
     → IsWhole part planned (op ∷ later) new
@@ -151,6 +155,7 @@ whole_noted part on note planned asked old new either whole none =
     (λ (is : IsNoted on note old new). noted_same part on note old new is) either
     ∙ whole none
 
+-- a partition that ends where it is planned to does so over each step
 pub wholes_stay : WholesStay
 wholes_stay = record {
   begins = λ c m mounts done none. begun_exact c None m.index (mounts.dp_done.0 done).ends;

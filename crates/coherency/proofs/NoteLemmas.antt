@@ -35,10 +35,12 @@ le_true a b h = grind arith
 true_le : (a b : ℕ) → nat_le a b ≡ true → a ≤ b
 true_le a b h = grind arith
 
+-- a note has the bytes that every note has
 pub note-frame : (note : List ℕ) (c : Coherency) → IsNote note c → has_frame note ≡ true
 note-frame note c h =
     both_true (both_true (both_true (both_true (eq-eqb (get_or note 0 0) 8 h.reference_length) (same_bytes (slice_range note 25 27) (0 ∷ 43 ∷ []) h.information_length)) (same_bytes (slice_range note 27 32) (codes "LTFS" ++ 0 ∷ []) h.signature)) (eq-eqb (get_or note 68 0) 0 h.uuid_end)) (le_true (get_or note 69 0) 1 h.version)
 
+-- 70 bytes with those of every note and the values at their places are that note
 pub frame-note : (note : List ℕ) (c : Coherency) → length note ≡ 70 → has_frame note ≡ true → c.vcr ≡ from_be_bytes w64 (slice_range note 1 9) → c.generation ≡ from_be_bytes w64 (slice_range note 9 17) → c.block ≡ from_be_bytes w64 (slice_range note 17 25) → uuid_in (slice_range note 32 68) ≡ Some c.uuid → IsNote note c
 frame-note note c long frame vcr generation block uuid =
     let version = and_parts _ (nat_le (get_or note 69 0) 1) frame in

@@ -35,33 +35,42 @@ apart words one other more rest differ is are =
 abbrev pub IsNamed : Text → List (String Global) → Type 0
 IsNamed name words = (more : List Text) × (map string_bytes words ≡ name ∷ more)
 
+-- words that begin with one name don't begin with another
 pub names_differ : (words : List (String Global)) (one other : Text) → bytes_eq one other ≡ false → IsNamed one words → IsNamed other words → ⊥
 names_differ words one other differ a b = apart words one other a.0 b.0 differ a.1 b.1
 
+-- the forms of `plain` begin with its name
 pub plain_named : (words : List (String Global)) → IsPlain words → IsNamed (codes "plain") words
 plain_named words plain = (plain.1.0, plain.1.1)
 
 pub behind_named : (name : Text) (form : List Text → Type 0) (words : List (String Global)) → IsBehindFolder name form words → IsNamed name words
 behind_named name form words is = (is.0 ∷ is.1, is.2)
 
+-- the forms of `label` begin with its name
 pub label_named : (words : List (String Global)) → IsLabel words → IsNamed (codes "label") words
 label_named words is = behind_named (codes "label") (Takes (bare (codes "label"))) words is
 
+-- the forms of `list` begin with its name
 pub list_named : (words : List (String Global)) → IsList words → IsNamed (codes "list") words
 list_named words is = behind_named (codes "list") (Takes (bare (codes "list"))) words is
 
+-- the forms of `generations` begin with its name
 pub generations_named : (words : List (String Global)) → IsGenerations words → IsNamed (codes "generations") words
 generations_named words is = behind_named (codes "generations") (Takes (bare (codes "generations"))) words is
 
+-- the forms of `view` begin with its name
 pub view_named : (words : List (String Global)) → IsView words → IsNamed (codes "view") words
 view_named words is = behind_named (codes "view") (λ more. IsViewForm more is.0) words is.1
 
+-- the forms of `format` begin with its name
 pub format_named : (words : List (String Global)) → IsFormat words → IsNamed (codes "format") words
 format_named words is = behind_named (codes "format") (λ more. IsVolumeForm more is.0) words is.1
 
+-- the forms of `serve` begin with its name
 pub serve_named : (words : List (String Global)) → IsServe words → IsNamed (codes "serve") words
 serve_named words is = behind_named (codes "serve") (λ more. IsServeForm more is.0) words is.1
 
+-- the forms of `make` begin with its name
 pub make_named : (words : List (String Global)) → IsMake words → IsNamed (codes "make") words
 make_named words is = behind_named (codes "make") (λ more. IsMakeForm more is.0 is.1) words is.2
 
@@ -77,6 +86,7 @@ behind words name text some first is = subst (λ rest. map string_bytes words �
     go [] some first = absurd (omega (arith, some))
     go (w ∷ words) some first = ap (λ t. t ∷ map string_bytes words) (ap string_bytes (sym first) ∙ is)
 
+-- two words or more are a name, a folder, and the words behind them
 pub behind_folder : (words : List (String Global)) (name : String Global) (text : Text) → 2 ≤ length words → name ≡ get_or words 0 name → string_bytes name ≡ text
     → (folder : Text) × (map string_bytes words ≡ text ∷ folder ∷ map string_bytes (take (length words - 2) (drop 2 words)))
 behind_folder words name text two first is =
@@ -136,6 +146,7 @@ one_make words count number one other (folder, more, is, form) (dir, rest, are, 
     let both : Some count ≡ Some number = sym form.counted ∙ moved.counted in
     (cc both, one_moment _ one other form.moment moved.moment)
 
+-- words that begin with `plain` are read as its forms say
 pub plain_spelled : (words : List (String Global)) (more : List Text) (r : Result Command WordsErr) → map string_bytes words ≡ codes "plain" ∷ more → IsReadAs more r
     → IsSpelledBy words r
 plain_spelled words more (Ok (commands.Plain at)) is form = (more, is, form)
@@ -159,6 +170,7 @@ plain_spelled words more (Err errors.Form) is none =
     }
 plain_spelled words more (Err errors.NoMemory) is none = tt
 
+-- words that begin with `label` and a folder are read as its forms say
 pub label_spelled : (words : List (String Global)) (folder : Text) (more : List Text) (r : Result Command WordsErr) → map string_bytes words ≡ codes "label" ∷ folder ∷ more
     → IsTakenAs (bare (codes "label")) more commands.Label r → IsSpelledBy words r
 label_spelled words folder more (Ok command) is takes = subst (λ (k : Command). IsSpelledBy words (Ok k)) (sym takes.0) (folder, more, is, takes.1)
@@ -175,6 +187,7 @@ label_spelled words folder more (Err errors.Form) is none =
     }
 label_spelled words folder more (Err errors.NoMemory) is none = tt
 
+-- words that begin with `list` and a folder are read as its forms say
 pub list_spelled : (words : List (String Global)) (folder : Text) (more : List Text) (r : Result Command WordsErr) → map string_bytes words ≡ codes "list" ∷ folder ∷ more
     → IsTakenAs (bare (codes "list")) more commands.List r → IsSpelledBy words r
 list_spelled words folder more (Ok command) is takes = subst (λ (k : Command). IsSpelledBy words (Ok k)) (sym takes.0) (folder, more, is, takes.1)
@@ -191,6 +204,7 @@ list_spelled words folder more (Err errors.Form) is none =
     }
 list_spelled words folder more (Err errors.NoMemory) is none = tt
 
+-- words that begin with `format` and a folder are read as its forms say
 pub format_spelled : (words : List (String Global)) (folder : Text) (more : List Text) (r : Result Command WordsErr) → map string_bytes words ≡ codes "format" ∷ folder ∷ more
     → IsVolumeAsked more r → IsSpelledBy words r
 format_spelled words folder more (Ok (commands.Plain at)) is form = absurd form
@@ -214,6 +228,7 @@ format_spelled words folder more (Err errors.Form) is none =
     }
 format_spelled words folder more (Err errors.NoMemory) is none = tt
 
+-- words that begin with `serve` and a folder are read as its forms say
 pub serve_spelled : (words : List (String Global)) (folder : Text) (more : List Text) (r : Result Command WordsErr) → map string_bytes words ≡ codes "serve" ∷ folder ∷ more
     → IsServeRead more r → IsSpelledBy words r
 serve_spelled words folder more (Ok (commands.Plain at)) is form = absurd form
@@ -237,6 +252,7 @@ serve_spelled words folder more (Err errors.Form) is none =
     }
 serve_spelled words folder more (Err errors.NoMemory) is none = tt
 
+-- words that begin with `make` and a folder are read as its forms say
 pub make_spelled : (words : List (String Global)) (folder : Text) (more : List Text) (r : Result Command WordsErr) → map string_bytes words ≡ codes "make" ∷ folder ∷ more
     → IsMakeRead more r → IsSpelledBy words r
 make_spelled words folder more (Ok (commands.Plain at)) is form = absurd form
@@ -260,6 +276,7 @@ make_spelled words folder more (Err errors.Form) is none =
     }
 make_spelled words folder more (Err errors.NoMemory) is none = tt
 
+-- words that begin with `generations` and a folder are read as its forms say
 pub generations_spelled : (words : List (String Global)) (folder : Text) (more : List Text) (r : Result Command WordsErr) → map string_bytes words ≡ codes "generations" ∷ folder ∷ more
     → IsTakenAs (bare (codes "generations")) more commands.Generations r → IsSpelledBy words r
 generations_spelled words folder more (Ok command) is takes = subst (λ (k : Command). IsSpelledBy words (Ok k)) (sym takes.0) (folder, more, is, takes.1)
@@ -276,6 +293,7 @@ generations_spelled words folder more (Err errors.Form) is none =
     }
 generations_spelled words folder more (Err errors.NoMemory) is none = tt
 
+-- words that begin with `view` and a folder are read as its forms say
 pub view_spelled : (words : List (String Global)) (folder : Text) (more : List Text) (r : Result Command WordsErr) → map string_bytes words ≡ codes "view" ∷ folder ∷ more
     → IsViewTaken more r → IsSpelledBy words r
 view_spelled words folder more (Ok (commands.Plain at)) is form = absurd form
@@ -305,6 +323,7 @@ not_taken [] e (inl memory) other none = other memory
 not_taken [] e (inr among) other none = among
 not_taken (k ∷ ks) e has other none = cc none
 
+-- a command that is simple and free is simple
 pub is_simple_of : (app : App) → is_simple_and_free app ≡ true → is_simple app ≡ true
 is_simple_of app both = (both_true (is_simple app) (is_free_app (built app)) both).0
   where

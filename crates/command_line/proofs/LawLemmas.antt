@@ -13,12 +13,15 @@ use Rattle.tape_edge.specs.Clocks.{IsSince1970}
 use Rattle.command_line.specs.Forms.{IsMomentForm}
 use Rattle.command_line.specs.Options.{IsMomentGiven, Takes, bare, value_of, with_moment}
 
+-- a word that begins with no dash is no long option
 pub not_long : (b : ℕ) (rest : List ℕ) → (b == 45) ≡ false → long_of (b ∷ rest) ≡ None
 not_long b rest e = rw (e, strip_byte) refl
 
+-- a word that begins with no dash is no short option
 pub not_short : (b : ℕ) (rest : List ℕ) → (b == 45) ≡ false → short_of (b ∷ rest) ≡ None
 not_short b rest e = rw (e, strip_byte) refl
 
+-- a word that begins with no dash isn't the two dashes alone
 pub not_dashes : (b : ℕ) (rest : List ℕ) → (b == 45) ≡ false → bytes_eq (b ∷ rest) (45 ∷ 45 ∷ []) ≡ false
 not_dashes b rest e = rw e refl
 
@@ -27,6 +30,7 @@ pub first_digit : (at : Moment) → (b : ℕ) × (rest : List ℕ) × (time_text
 unfolding time_text civil_text
 first_digit at = (_, _, refl, grind (arith, nat_tests))
 
+-- a command without arguments takes no words
 pub takes_bare : (name : Text) → Takes (bare name) []
 unfolding clap_on_literals
 takes_bare name = refl
@@ -71,12 +75,15 @@ module _ (name : Text) where
   unfolding clap_on_literals
   given_joined text = refl
 
+  -- no words at all are the form without a moment
   pub none_is_form : IsMomentForm name [] None
   none_is_form = record { takes = takes_none; moment = subst (λ t. IsMomentGiven t None) (sym none_given) tt }
 
+  -- `--at=` with a moment behind it in the same word gives that moment
   pub joined_is_form : (at : Moment) → IsSince1970 at → IsMomentForm name ((codes "--at=" ++ time_text at) ∷ []) (Some at)
   joined_is_form at since = record { takes = takes_joined (time_text at); moment = subst (λ t. IsMomentGiven t (Some at)) (sym (given_joined (time_text at))) (refl, since) }
 
+  -- `--at` and a moment in the next word give that moment
   pub apart_is_form : (at : Moment) → IsSince1970 at → IsMomentForm name (codes "--at" ∷ time_text at ∷ []) (Some at)
   apart_is_form at since =
       let found = first_digit at in

@@ -96,6 +96,7 @@ module _ (d : ℕ) (more : List ℕ) (f : (d == 45) ≡ false) (b : ℕ) (rest :
   moment_apart = rw (is_value d more f, not_dashes b rest e, not_long b rest e, not_short b rest e) refl
 
 module _ (word : Text) (count : ℕ) (told : count_told (Some word) ≡ Some count) where
+  -- a count alone is a form of `make`
   pub make_alone : IsMakeForm (word ∷ []) count None
   make_alone = let h = count_has_none word count told in go h.first h.rest h.is h.no_dash
     where
@@ -106,6 +107,7 @@ module _ (word : Text) (count : ℕ) (told : count_told (Some word) ≡ Some cou
         moment = subst (λ o. IsMomentGiven o None) (sym (no_moment b rest e)) tt;
       })
 
+  -- a count, and `--at=` with a moment in the same word, are a form of `make`
   pub make_joined : (at : Moment) → IsSince1970 at → IsMakeForm (word ∷ (codes "--at=" ++ time_text at) ∷ []) count (Some at)
   make_joined at since = let h = count_has_none word count told in go h.first h.rest h.is h.no_dash
     where
@@ -116,6 +118,7 @@ module _ (word : Text) (count : ℕ) (told : count_told (Some word) ≡ Some cou
         moment = subst (λ o. IsMomentGiven o (Some at)) (sym (moment_joined b rest e (time_text at))) (refl, since);
       })
 
+  -- `--at`, a moment in the next word, and a count are a form of `make`
   pub make_apart : (at : Moment) → IsSince1970 at → IsMakeForm (codes "--at" ∷ time_text at ∷ word ∷ []) count (Some at)
   make_apart at since = let h = count_has_none word count told in let g = time_has_none at in go g.first g.rest g.is g.no_dash h.first h.rest h.is h.no_dash
     where

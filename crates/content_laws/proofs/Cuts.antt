@@ -122,6 +122,7 @@ had_none : (newer : List Construct) (k : Construct) (older : List Construct) →
 had_none [] k older is = cc is
 had_none (c ∷ newer) k older is = cc is
 
+-- each index of a partition was met at some stage of reading it
 pub content_met : (items : List Item) (k : Construct) (newer older : List Construct) → (content items).constructs ≡ newer ++ k ∷ older
     → IsMet (readable items) start k older
 content_met items k newer older is =
@@ -162,6 +163,7 @@ cut_stage items before behind s n parts stands sound =
     ∙ fold-append seen start before (take n behind)
     ∙ ap (λ (c : Content). fold seen c (take n behind)) stands
 
+-- a partition cut where a reading stood has the content of that stage
 pub cut_at_stage : (items before behind : List Item) (s : Content) → readable items ≡ before ++ behind → fold seen start before ≡ s
     → ((at : ℕ) → s.phase ≢ Bad at) → content (take s.pos items) ≡ s
 cut_at_stage items before behind s parts stands sound =

@@ -7,12 +7,15 @@ use Rattle.tape_types.specs.declared.cartridges.Item.TheVariants.{Block, Mark}
 use Rattle.content_laws.specs.Readings.{Construct, Group, HaveBlocks, constructs_from, items_of_group, items_of_tail}
 use Rattle.content_laws.specs.Content.{Content, Data, Index, Bad, phase_of, seen}
 
+-- a reading behind data, with so many blocks since the last index
 abbrev pub in_data : ℕ → ℕ → List Construct → Content
 in_data pos since ks = record { pos = pos; phase = Data since; constructs = ks }
 
+-- a reading in an index that is open, with these blocks of it
 abbrev pub in_index : ℕ → ℕ → List (List ℕ) → List Construct → Content
 in_index pos mark blocks ks = record { pos = pos; phase = Index mark blocks; constructs = ks }
 
+-- blocks behind data are so many blocks more since the last index
 pub over_data : (blocks : List (List ℕ)) (pos since : ℕ) (ks : List Construct) (rest : List Item)
     → fold seen (in_data pos since ks) (map Block blocks ++ rest) ≡ fold seen (in_data (pos + length blocks) (since + length blocks) ks) rest
 over_data [] pos since ks rest =
@@ -34,6 +37,7 @@ over_index (b ∷ blocks) begun pos mark ks rest =
     over_index blocks (begun ++ b ∷ []) (pos + 1) mark ks rest
     ∙ (λ t. fold seen (in_index (one t) mark (append_assoc begun (b ∷ []) blocks t) ks) rest)
 
+-- a mark behind the blocks of an index closes it
 pub over_closing : (blocks : List (List ℕ)) (pos mark : ℕ) (ks : List Construct) (rest : List Item) → blocks ≢ []
     → fold seen (in_index pos mark blocks ks) (Mark ∷ rest) ≡ fold seen (in_data (pos + 1) 0 (record { mark = mark; blocks = blocks } ∷ ks)) rest
 over_closing [] pos mark ks rest some = absurd (some refl)
@@ -49,6 +53,7 @@ over_construct blocks pos since ks rest some =
     ∙ over_closing blocks (pos + 1 + length blocks) pos ks rest some
     ∙ (λ t. fold seen (in_data (last t) 0 (record { mark = pos; blocks = blocks } ∷ ks)) rest)
 
+-- a group in front of others stands before their items
 pub unrolled : (g : Group) (gs : List Group) (rest : List Item)
     → flat_map items_of_group (g ∷ gs) ++ rest ≡ map Block g.data_blocks ++ Mark ∷ (map Block g.index_blocks ++ Mark ∷ (flat_map items_of_group gs ++ rest))
 unrolled g gs rest =
@@ -66,6 +71,7 @@ length_group g = omega (
   length-map g.index_blocks Block,
 )
 
+-- groups one behind the other are read as their indexes
 pub over_groups : (gs : List Group) (pos : ℕ) (ks : List Construct) (rest : List Item) → HaveBlocks gs
     → fold seen (in_data pos 0 ks) (flat_map items_of_group gs ++ rest)
     ≡ fold seen (in_data (pos + length (flat_map items_of_group gs)) 0 (reverse (constructs_from pos gs) ++ ks)) rest
@@ -92,11 +98,13 @@ pub over_last_data : (blocks : List (List ℕ)) (pos since : ℕ) (ks : List Con
 over_last_data blocks pos since ks =
     ap (λ (l : List Item). fold seen (in_data pos since ks) l) (sym (append-nil (map Block blocks))) ∙ over_data blocks pos since ks []
 
+-- blocks behind an opening mark belong to the index that is open
 pub over_last_index : (blocks begun : List (List ℕ)) (pos mark : ℕ) (ks : List Construct)
     → fold seen (in_index pos mark begun ks) (map Block blocks) ≡ in_index (pos + length blocks) mark (begun ++ blocks) ks
 over_last_index blocks begun pos mark ks =
     ap (λ (l : List Item). fold seen (in_index pos mark begun ks) l) (sym (append-nil (map Block blocks))) ∙ over_index blocks begun pos mark ks []
 
+-- a tail is read as its leading blocks and the index begun behind them
 pub over_tail : (lead : List (List ℕ)) (begun : Option (List (List ℕ))) (pos : ℕ) (ks : List Construct)
     → fold seen (in_data pos 0 ks) (items_of_tail lead begun)
     ≡ record { pos = pos + length (items_of_tail lead begun); phase = phase_of pos lead begun; constructs = ks }
@@ -111,6 +119,7 @@ over_tail lead (Some begun) pos ks =
     ∙ over_last_index begun [] (pos + length lead + 1) (pos + length lead) ks
     ∙ (λ t. in_index (one t) (pos + length lead) begun ks)
 
+-- behind two marks in a row nothing more is read
 pub bad_stays : (items : List Item) (pos at : ℕ) (ks : List Construct)
     → fold seen (record { pos = pos; phase = Bad at; constructs = ks }) items ≡ record { pos = pos; phase = Bad at; constructs = ks }
 bad_stays [] pos at ks = refl

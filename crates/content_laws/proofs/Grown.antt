@@ -11,6 +11,7 @@ use Rattle.content_laws.proofs.Folded.{in_data, in_index, over_construct, over_l
 use Rattle.content_laws.proofs.Placed.{pos_is}
 use Rattle.content_laws.proofs.Whole.{front_append, front_blocks, front_item, front_torn}
 
+-- a Torn at the end leaves the content as it is
 pub content_torn : (items : List Item) → content (items ++ Torn ∷ []) ≡ content items
 content_torn items = ap (λ (l : List Item). fold seen start (drop 4 l)) (front_torn items)
 
@@ -76,6 +77,7 @@ data_at_end items since whole long is =
     pos_is items (subst (λ (l : List Item). 4 ≤ length l) (sym whole) long) (λ at bad. let no : Data since ≡ Bad at = sym is ∙ bad in cc no)
     ∙ ap (λ (l : List Item). length l) whole
 
+-- blocks appended behind an index are data behind it
 pub blocks_appended : (items : List Item) (blocks : List (List ℕ)) (since : ℕ) → front items ≡ items → 4 ≤ length items
     → (content items).phase ≡ Data since
     → content (items ++ map Block blocks) ≡ in_data (length items + length blocks) (since + length blocks) (content items).constructs
@@ -83,6 +85,7 @@ blocks_appended items blocks since whole long is =
     content_blocks items blocks since whole long is
     ∙ ap (λ (n : ℕ). in_data (n + length blocks) (since + length blocks) (content items).constructs) (data_at_end items since whole long is)
 
+-- an index appended behind data is the newest one
 pub index_appended : (items : List Item) (blocks : List (List ℕ)) (since : ℕ) → front items ≡ items → 4 ≤ length items
     → (content items).phase ≡ Data since → blocks ≢ []
     → content (items ++ (Mark ∷ (map Block blocks ++ Mark ∷ [])))

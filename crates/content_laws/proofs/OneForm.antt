@@ -69,5 +69,6 @@ same_spelling (g ∷ gs) (h ∷ hs) lead other begun started same =
       more.2,
     )
 
+-- a partition has its groups, leading blocks and begun index in one way
 pub one_form : (items : List Item) (r s : HasForm items) → (r.groups ≡ s.groups) × (r.lead ≡ s.lead) × (r.begun ≡ s.begun)
 one_form items r s = same_spelling r.groups s.groups r.lead s.lead r.begun s.begun (sym r.spelled ∙ s.spelled)

@@ -19,6 +19,7 @@ EndsAt pos (Data since) ks = end_dp ks + since ≡ pos
 EndsAt pos (Index mark blocks) ks = (end_dp ks ≤ mark) × (mark + 1 + length blocks ≡ pos)
 EndsAt pos (Bad at) ks = (end_dp ks + 1 ≤ at) × (at ≡ pos)
 
+-- the indexes stand one behind the other, and before the reading's position
 pub record IsPlaced (s : Content) : Type 0 where
   pub ordered : AreOrdered s.constructs
   pub ends : EndsAt s.pos s.phase s.constructs
@@ -33,13 +34,16 @@ placed_in pos (Index mark (b ∷ blocks)) ks Mark ordered ends = record { ordere
 placed_in pos (Index mark blocks) ks Torn ordered ends = record { ordered = ordered; ends = ends }
 placed_in pos (Bad at) ks x ordered ends = record { ordered = ordered; ends = ends }
 
+-- a reading that goes on keeps the indexes in their places
 pub stays_placed : (items : List Item) (s : Content) → IsPlaced s → IsPlaced (fold seen s items)
 stays_placed [] s placed = placed
 stays_placed (x ∷ items) s placed = stays_placed items (seen s x) (placed_in s.pos s.phase s.constructs x placed.ordered placed.ends)
 
+-- at the beginning no index stands out of its place
 pub start_placed : IsPlaced start
 start_placed = record { ordered = tt; ends = omega arith }
 
+-- the indexes of a partition are in their places
 pub content_placed : (items : List Item) → IsPlaced (content items)
 content_placed items = stays_placed (readable items) start start_placed
 
@@ -71,10 +75,12 @@ end_dp_at pos (Data since) ks ends = omega (arith, ends)
 end_dp_at pos (Index mark blocks) ks ends = omega (arith, ends.0, ends.1)
 end_dp_at pos (Bad at) ks ends = omega (arith, ends.0, ends.1)
 
+-- the end of the data partition lies within its front
 pub end_dp_within : (items : List Item) → 4 ≤ length (front items) → end_dp (content items).constructs ≤ length (front items)
 end_dp_within items long =
     omega (arith, end_dp_at (content items).pos (content items).phase (content items).constructs (content_placed items).ends, pos_within items long)
 
+-- the end of the data partition lies behind its labels
 pub end_dp_from : (items : List Item) → 4 ≤ end_dp (content items).constructs
 end_dp_from items = end_dp_least (content items).constructs (content_placed items).ordered
 
@@ -89,9 +95,11 @@ end_ip_bounds pos (Bad at) ks ordered ends = (omega (arith, end_dp_least ks orde
 ip_bounds : (s : Content) → IsPlaced s → (4 ≤ end_ip s) × (end_ip s ≤ s.pos)
 ip_bounds s placed = end_ip_bounds s.pos s.phase s.constructs placed.ordered placed.ends
 
+-- the end of the index partition lies within its front
 pub end_ip_within : (items : List Item) → 4 ≤ length (front items) → end_ip (content items) ≤ length (front items)
 end_ip_within items long = omega (arith, (ip_bounds (content items) (content_placed items)).1, pos_within items long)
 
+-- the end of the index partition lies behind its labels
 pub end_ip_from : (items : List Item) → 4 ≤ end_ip (content items)
 end_ip_from items = (ip_bounds (content items) (content_placed items)).0
 
@@ -119,6 +127,7 @@ one_step pos (Index mark []) ks Mark whole = inr (pos, refl)
 one_step pos (Index mark (b ∷ blocks)) ks Mark whole = inl refl
 one_step pos (Bad at) ks x whole = inr (at, refl)
 
+-- a reading that does not stop reaches the end of its items
 pub reaches_end : (items : List Item) (s : Content) → AreWhole items → ((at : ℕ) → (fold seen s items).phase ≢ Bad at)
     → (fold seen s items).pos ≡ s.pos + length items
 reaches_end [] s whole sound = omega arith

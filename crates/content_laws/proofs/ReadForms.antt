@@ -8,6 +8,7 @@ use Rattle.content_laws.specs.Readings.{Construct, HasForm, LacksForm, construct
 use Rattle.content_laws.specs.Content.{Content, Bad, content, content_of, phase_of, seen, start}
 use Rattle.content_laws.proofs.Folded.{bad_stays, in_data, over_data, over_groups, over_tail}
 
+-- the content of a partition in form is that of its groups and tail
 pub form : (items : List Item) (r : HasForm items) → content items ≡ content_of r.groups r.lead r.begun
 form items r =
     let behind : ℕ = 4 + length (flat_map items_of_group r.groups) in
@@ -16,6 +17,7 @@ form items r =
     ∙ ap (λ (ks : List Construct). fold seen (in_data behind 0 ks) (items_of_tail r.lead r.begun)) (append-nil (reverse (constructs_from 4 r.groups)))
     ∙ over_tail r.lead r.begun behind (reverse (constructs_from 4 r.groups))
 
+-- a partition that lacks the form is read up to the place where it does
 pub stops : (items : List Item) (at : ℕ) → LacksForm items at → (content items).phase ≡ Bad at
 stops items at l =
     let behind : ℕ = 4 + length (flat_map items_of_group l.groups) in
@@ -29,6 +31,7 @@ stops items at l =
     )
     ∙ ap Bad (sym l.place)
 
+-- a partition lacks the form at one place
 pub one_place : (items : List Item) (at other : ℕ) → LacksForm items at → LacksForm items other → at ≡ other
 one_place items at other l m = let both : Bad at ≡ Bad other = sym (stops items at l) ∙ stops items other m in cc
 
@@ -36,6 +39,7 @@ form_not_bad : (at before : ℕ) (lead : List (List ℕ)) (begun : Option (List 
 form_not_bad at before lead None bad = cc
 form_not_bad at before lead (Some begun) bad = cc
 
+-- a partition in form does not lack it
 pub never_both : (items : List Item) (at : ℕ) → HasForm items → LacksForm items at → ⊥
 never_both items at r l =
     form_not_bad at (4 + length (flat_map items_of_group r.groups)) r.lead r.begun

@@ -117,5 +117,6 @@ told items (inr e) =
       record { groups = e.groups; indexes = e.indexes; lead = e.lead; behind = e.behind; spelled = e.spelled; place = refl },
     )
 
+-- a partition has the form, or lacks it at a place
 pub either : (items : List Item) → HasForm items ⊎ ((at : ℕ) × LacksForm items at)
 either items = told items (shaped (readable items) (whole_behind 4 (front items) (front_whole items))).0

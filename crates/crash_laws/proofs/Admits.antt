@@ -93,13 +93,16 @@ none_more jobs more s none = ap (λ (m : Made). m.base.ahead) (after_append jobs
 
 -- ---- ops of jobs
 
+-- the ops of jobs that make no index whole are the ops that they were made of
 pub plain_ops : (xs : List Op) → map (λ (job : Job). job.op) (map plain xs) ≡ xs
 plain_ops [] = refl
 plain_ops (x ∷ xs) = ap (λ (l : List Op). x ∷ l) (plain_ops xs)
 
+-- the op of a job
 abbrev pub op_of : Job → Op
 op_of job = job.op
 
+-- the ops of an index's jobs are the flush that is due first and its construct
 pub index_ops : (rules : Rules) (space : Space) (text : List ℕ) (e : CoveredIndex)
     → map op_of (index_jobs rules space text e)
     ≡ flush_first space.flush_due space.ends.ip ++ construct rules.block_size Dp space.ends.dp text
@@ -173,6 +176,7 @@ module _ {D : Type 0} (drive : Ghosts D) (planned : Planned) (fixed : Fixed D) (
     settles = a.settles;
   }
 
+  -- a placement that changes the tree and asks nothing keeps a volume safe
   pub at_changed : (space : Space) (history : List Placed) (p : Placed) (acks : List Ack) (done : ℕ) (syncs : List Waiter) (asked : List Op)
       → At drive planned space fixed d history acks done syncs on asked
       → At drive planned (record space { changed = true }) fixed d (history ++ p ∷ []) acks done syncs on asked
@@ -195,6 +199,7 @@ module _ {D : Type 0} (drive : Ghosts D) (planned : Planned) (fixed : Fixed D) (
   more_ops : (jobs more : List Job) (asked others : List Op) → map op_of jobs ≡ asked → map op_of more ≡ others → map op_of (jobs ++ more) ≡ asked ++ others
   more_ops jobs more asked others old new = map-append op_of jobs more ∙ ap (λ (l : List Op). l ++ map op_of more) old ∙ ap (λ (l : List Op). asked ++ l) new
 
+  -- bytes that are admitted to a partition keep a volume safe, with their jobs behind the others
   pub at_stored : (space : Space) (history : List Placed) (acks : List Ack) (done : ℕ) (syncs : List Waiter) (asked : List Op) (rules : Rules) (part : Part)
       (bytes : List ℕ) (a : At drive planned space fixed d history acks done syncs on asked) → MayWrite part (after a.made a.jobs).base
       → At drive (with_jobs (data_jobs rules part (end_of part space.ends) bytes) planned) (with_data rules part bytes space) fixed d history acks done syncs on

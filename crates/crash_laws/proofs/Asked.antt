@@ -177,6 +177,7 @@ module _ {D : Type 0} (drive : Ghosts D)
 
 module _ {D : Type 0} (drive : Ghosts D)
     (only_now : (d : D) (image : Cartridge) → drive.commands d < 2 ^ 64 - 1 → drive.left_since d (drive.commands d) image → drive.leaves d image) where
+  -- each submission keeps a volume safe, by what it adds to the view
   pub submits_are_safe : SubmitsAreSafe drive
   submits_are_safe planned old new who nth (submitted.Ready reply) safe s adds headed size due =
       by_fate drive only_now planned old new who nth (submitted.Ready reply) safe s adds headed size due (fate_for reply) (Some reply) s.placing s.of_it

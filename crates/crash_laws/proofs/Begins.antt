@@ -80,6 +80,7 @@ module _ {D : Type 0} (drive : Ghosts D)
       → IsFirstSpace can.held fixed.mounted.newest (first_space (facts_of fixed.mounted))
   first_is fixed can mounts = record { end_ip = mounts.ip_end; end_dp = mounts.dp_end; newest = refl; last_dp = mounts.last_dp }
 
+  -- a volume mounted from a cartridge that is sound is safe when it begins
   pub starts_are_safe : StartsAreSafe drive
   starts_are_safe fixed next can mounts =
       let found = can.reads_as.0.reads.found in

@@ -64,6 +64,7 @@ module _ {D : Type 0} (drive : Ghosts D) where
       let it = step.told before told in
       subst (λ (c : Cartridge). AfterOp op end before c) (same_Some it.0 now (sym it.1 ∙ after)) it.2
 
+  -- what a head says of an op is what the theory of crashes asks of it
   pub heads_do_ops : HeadsDoOps drive
   heads_do_ops = record {
     step = λ op end old new before now step told after. (

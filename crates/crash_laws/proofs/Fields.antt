@@ -20,9 +20,11 @@ use Rattle.serving_promise.specs.Served.{Fixed, View}
 use Rattle.crash_laws.specs.Safe.{AreInOrder, IsSafe, Planned, Settle, wait_of}
 use Rattle.std.specs.Prelude.{length, take}
 
+-- the trees after each number of placements of a history
 abbrev pub trees_at : {D : Type 0} → Fixed D → List Placed → Trees
 trees_at fixed history = record { nth = λ k. replay (calls_of fixed.script) fixed.tree (take k history); count = length history }
 
+-- a volume at a moment, as the theory of crashes knows it
 abbrev pub state_at : {D : Type 0} → Labels → Fixed D → List Placed → List Ack → ℕ → List Waiter → Made → List Job → State
 state_at labels fixed history acks done syncs made jobs = record {
   volume = record { labels = labels; facts = carried fixed.mounted.index };
@@ -35,6 +37,7 @@ state_at labels fixed history acks done syncs made jobs = record {
   acks = acks;
 }
 
+-- a safe volume, by its space, drive, history, acks, syncs and ops
 pub record At {D : Type 0} (drive : Ghosts D) (planned : Planned) (space : Space) (fixed : Fixed D) (d : D) (history : List Placed) (acks : List Ack)
     (done : ℕ) (syncs : List Waiter) (on : Option ℕ) (asked : List Op) : Type 0 where
   pub made : Made
@@ -49,6 +52,7 @@ pub record At {D : Type 0} (drive : Ghosts D) (planned : Planned) (space : Space
   pub settles : Settle made jobs
 
 module _ {D : Type 0} (drive : Ghosts D) (planned : Planned) (space : Space) where
+  -- the same from a safe volume's view
   abbrev pub of_view : (v : View D) → IsSafe drive planned space v
       → At drive planned space v.fixed v.drive v.history v.acks (after_all v.events).done (after_all v.events).syncs v.on v.ops
   of_view v safe = record {

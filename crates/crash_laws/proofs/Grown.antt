@@ -30,6 +30,7 @@ jobs_grow part (job ∷ jobs) s =
     ∙ ap (λ (l : List Item). l ++ items_by part (map op_of jobs)) (op_grows part job.op job.whole s)
     ∙ append_assoc (part_items part s) (put_by part job.op) (items_by part (map op_of jobs))
 
+-- what is planned grows by the items of the ops that were added
 pub plans_grow : PlansGrow
 plans_grow old new asked f part =
     ap (λ (m : Made). part_items part m) f.made ∙ jobs_grow part f.jobs old.made

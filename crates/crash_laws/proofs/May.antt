@@ -25,6 +25,7 @@ same_op (ops.Put place bytes) held before image w = w
 same_op (ops.Mark place) held before image w = w
 same_op (ops.Flush place) held before image w = w
 
+-- a safe volume may do its first op where the drive's owner allows what its script may leave
 pub steps_may : {D : Type 0} (drive : Ghosts D) → StepsMay drive
 steps_may drive p s v op later safe first placed moments allowed c told before image leaves within =
     let held : safe.held ≡ c = let a = safe.told in cc in

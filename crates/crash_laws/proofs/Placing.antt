@@ -110,6 +110,7 @@ module _ {D : Type 0} where
       ∙ ap (λ (h : List Placed). standing (given_at limits old.fixed) (on_after old added) h (length h)) history
       ∙ on_by limits old added old.on refl
 
+  -- what stands goes by what is fixed, by placement and by the history alone
   pub same_standing : (limits : Limits) (old new : View D) → new.fixed ≡ old.fixed → new.on ≡ old.on → new.history ≡ old.history
       → standing_now limits new ≡ standing_now limits old
   same_standing limits old new fixed on history =
@@ -117,6 +118,7 @@ module _ {D : Type 0} where
       ∙ ap (λ (o : Option ℕ). standing (given_at limits old.fixed) o new.history (length new.history)) on
       ∙ ap (λ (h : List Placed). standing (given_at limits old.fixed) old.on h (length h)) history
 
+  -- what stands behind a placement is what its call does to what stood before
   pub standings_go_on : StandingsGoOn D
   standings_go_on = record { begins = λ limits fixed next. refl; placed = placed_now; stepped = stepped_now }
 
@@ -182,6 +184,7 @@ module _ {D : Type 0} (drive : Ghosts D)
       → call_at g.calls p ≡ None → IsSafeNow drive planned limits new
   none_safe added safe placed quiet fate is = same_safe added safe placed quiet (stands [] added placed ∙ none_is g on_now st p fate is)
 
+  -- a void placement keeps a volume safe
   pub void_safe : (added : List Event) → IsSafeNow drive planned limits old → IsPlaced drive old new p [] added → AreQuiet added → p.fate ≡ fates.Void
       → IsSafeNow drive planned limits new
   void_safe added safe placed quiet fate = same_safe added safe placed quiet (stands [] added placed ∙ void_is g on_now st p fate)
@@ -198,6 +201,7 @@ module _ {D : Type 0} (drive : Ghosts D)
       ap (λ (s : Standing). s.space) (stands asks added placed ∙ done_is g on_now st p call fate is)
       ∙ ap (λ (a : Ask). space.after (rules g) on_now st.space a) asked_is
 
+  -- a placement that is done and asks for no index keeps a volume safe
   pub done_safe : (call : Call) (added : List Event) (ask : Ask) → ask_of g st call p.at ≡ ask → IsSafeNow drive planned limits old
       → IsPlaced drive old new p (space.ops_of (rules g) on_now st.space ask) added → AreQuiet added → p.fate ≡ fates.Done → call_at g.calls p ≡ Some call
       → AsksNoIndex ask → IsSafeWith drive planned limits (space.ops_of (rules g) on_now st.space ask) new
@@ -265,6 +269,7 @@ module _ {D : Type 0} (drive : Ghosts D)
 
 module _ {D : Type 0} (drive : Ghosts D)
     (only_now : (d : D) (image : Cartridge) → drive.commands d < 2 ^ 64 - 1 → drive.left_since d (drive.commands d) image → drive.leaves d image) where
+  -- each call that is placed keeps a volume safe
   pub calls_are_safe : CallsAreSafe drive
   calls_are_safe = record {
     void = λ planned limits old new p added safe placed quiet fate. void_safe drive only_now planned limits old new p added safe placed quiet fate;

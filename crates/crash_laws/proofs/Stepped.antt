@@ -74,13 +74,16 @@ only_first : (o : Option waiting.Op) (e : Event) (es : List Event) → All (λ (
 only_first o e es all true is = ap (λ (b : Bool). b || list_any (does_dp_flush o) es) is
 only_first o e es all false is = ap (λ (b : Bool). b || list_any (does_dp_flush o) es) is ∙ no_flush o es all
 
+-- where placement on the index partition is on, it stays on from the same place
 pub on_already : {D : Type 0} (old : View D) (added : List Event) (first : ℕ) → old.on ≡ Some first → on_after old added ≡ Some first
 on_already old added first is = rw is refl
 
+-- where no flush of the data partition is done, placement stays off
 pub on_never : {D : Type 0} (old : View D) (added : List Event) → old.on ≡ None → list_any (does_dp_flush (waiting_op (after_all old.events))) added ≡ false
     → on_after old added ≡ None
 on_never old added is none = rw (is, none) refl
 
+-- the first flush of the data partition turns placement on at the end of the history
 pub on_turned : {D : Type 0} (old : View D) (added : List Event) → old.on ≡ None → list_any (does_dp_flush (waiting_op (after_all old.events))) added ≡ true
     → on_after old added ≡ Some (length old.history)
 on_turned old added is flush = rw (is, flush) refl
@@ -305,6 +308,7 @@ module _ {D : Type 0} (drive : Ghosts D)
           (on_same old (Worked place None ∷ answers)
           (only_first (waiting_op (after_all old.events)) (Worked place None) answers all false (seen ∙ none))) on)
 
+  -- the first op, done, keeps a volume safe
   pub done_safe : (old new : View D) (op : Op) (place : Place) (end : StepDone) (answers : List Event) → IsSafe drive planned space old
       → IsStepped drive old new (Worked place None) answers → old.ops ≡ op ∷ new.ops → IsOpStep drive op end old.drive new.drive → IsWell end
       → IsSafe drive planned space new
@@ -336,6 +340,7 @@ module _ {D : Type 0} (drive : Ghosts D)
       let each : AreInOrder n (x.0 ∷ others) = subst (λ (l : List Waiter). AreInOrder n l) x.1 order in order_weaker n x.0.due others each.0 each.1)
       is
 
+  -- the first op, failed, keeps a volume safe
   pub failed_safe : (old new : View D) (op : Op) (later : List Op) (place : Place) (counts told : Twin) (answers : List Event) → IsSafe drive planned space old
       → IsStepped drive old new (Worked place (Some told)) answers → old.ops ≡ op ∷ later → new.ops ≡ old.ops
       → IsOpStep drive op (outcome.Failed counts) old.drive new.drive → IsSafe drive planned space new
@@ -353,6 +358,7 @@ module _ {D : Type 0} (drive : Ghosts D)
       (subst (λ (o : Option ℕ). At drive planned space old.fixed new.drive old.history old.acks next.done next.syncs o (op ∷ later)) (sym on_is)
       (subst (λ (n : ℕ). At drive planned space old.fixed new.drive old.history old.acks n next.syncs old.on (op ∷ later)) (sym after_it.1) dropped))
 
+  -- a read, however it ends, keeps a volume safe
   pub read_safe : (old new : View D) (ticket : ℕ) (place : Place) (fault : Option Twin) (end : StepDone) (answers : List Event) → IsSafe drive planned space old
       → IsStepped drive old new (Served ticket place fault) answers → new.ops ≡ old.ops → IsReadStep drive place end old.drive new.drive → IsSafe drive planned space new
   read_safe old new ticket place fault end answers safe s same_ops step =
@@ -389,6 +395,7 @@ module _ {D : Type 0} (drive : Ghosts D)
 
 module _ {D : Type 0} (drive : Ghosts D)
     (only_now : (d : D) (image : Cartridge) → drive.commands d < 2 ^ 64 - 1 → drive.left_since d (drive.commands d) image → drive.leaves d image) where
+  -- each step of the head keeps a volume safe
   pub steps_are_safe : StepsAreSafe drive
   steps_are_safe = record {
     done = λ planned s old new op place end answers safe stepped is step well.

@@ -231,6 +231,7 @@ module _ {D : Type 0} (drive : Ghosts D)
         → IsSafe drive planned s new
     synced_view s a = by_ops s (standing st) refl a
 
+  -- each submission keeps a volume safe, by what it asks of the tape
   pub submissions_are_safe : SubmissionsAreSafe drive
   submissions_are_safe = record {
     unplaced = unplaced;

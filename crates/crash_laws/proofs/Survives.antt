@@ -8,6 +8,7 @@ use Rattle.crash_laws.specs.Safe.{trees_of, volume_of}
 use Rattle.crash_laws.proofs.Waits.{all_has}
 
 module _ {D : Type 0} (drive : Ghosts D) where
+  -- a safe volume keeps the promise on crashes
   pub safe_volumes_survive : SafeVolumesSurvive drive
   safe_volumes_survive planned s v safe =
       let volume = volume_of planned.labels v in

@@ -16,6 +16,7 @@ use Rattle.serving_promise.specs.Submits.{acks_for}
 use Rattle.crash_laws.specs.Changes.{is_quiet}
 use Rattle.crash_laws.specs.Safe.{AreInOrder}
 
+-- a number that the test calls at most another is at most that
 pub le_is : (a b : ℕ) → nat_le a b ≡ true → a ≤ b
 le_is a b h = grind (arith, nat_tests)
 
@@ -40,6 +41,7 @@ quiet_one st (Served ticket place None) q = record { done = refl; syncs = refl }
 quiet_one st (Served ticket place (Some counts)) q = record { done = refl; syncs = refl }
 quiet_one st (Worked place fault) q = absurd cc
 
+-- quiet events leave the syncs that wait and the number of ops done
 pub quiet_all : (st : State) (es : List Event) → All (λ (e : Event). is_quiet e ≡ true) es → IsKept st (fold after st es)
 quiet_all st [] all = record { done = refl; syncs = refl }
 quiet_all st (e ∷ es) all =
@@ -62,15 +64,18 @@ pub quiet_tickets : (es : List Event) → All (λ (e : Event). is_quiet e ≡ tr
 quiet_tickets [] all = refl
 quiet_tickets (e ∷ es) all = ap (λ (o : Option ℕ). cons_option o (filter_map synced_ticket es)) (quiet_ticket e (All-head (λ (x : Event). is_quiet x ≡ true) e es all)) ∙ quiet_tickets es (All-tail (λ (x : Event). is_quiet x ≡ true) e es all)
 
+-- quiet events bring no acknowledgement
 pub quiet_acks : (commands : ℕ) (es : List Event) → All (λ (e : Event). is_quiet e ≡ true) es → acks_for commands es ≡ []
 quiet_acks commands es all = ap (λ (tickets : List ℕ). map (λ ticket. record { place = ticket; command = commands }) tickets) (quiet_tickets es all)
 
 -- ---- order
 
+-- syncs in order behind so many ops are in order behind fewer
 pub order_weaker : (m n : ℕ) (syncs : List Waiter) → m ≤ n → AreInOrder n syncs → AreInOrder m syncs
 order_weaker m n [] le all = tt
 order_weaker m n (w ∷ syncs) le all = (omega (arith, le, all.0), all.1)
 
+-- a sync that is due last may wait behind the others
 pub order_more : (n : ℕ) (syncs : List Waiter) (w : Waiter) → n ≤ w.due → AllByRecursion (λ (s : Waiter). s.due ≤ w.due) syncs → AreInOrder n syncs
     → AreInOrder n (syncs ++ w ∷ [])
 order_more n [] w le all order = (le, tt)
@@ -80,6 +85,7 @@ order_by : (b : Bool) (n : ℕ) (s : Waiter) (kept : List Waiter) → n ≤ s.du
 order_by true n s kept le order = (le, order)
 order_by false n s kept le order = order_weaker n s.due kept le order
 
+-- some of the syncs in order are in order
 pub order_filter : (p : Waiter → Bool) (n : ℕ) (syncs : List Waiter) → AreInOrder n syncs → AreInOrder n (filter p syncs)
 order_filter p n [] order = tt
 order_filter p n (s ∷ syncs) order = order_by (p s) n s (filter p syncs) order.0 (order_filter p s.due syncs order.1)
@@ -95,6 +101,7 @@ by_calm : (calm : Bool) (first : Option Op) (op : Op) → cond calm None first �
 by_calm true first op e = absurd cc
 by_calm false first op e = e
 
+-- the op that waits for the head is the first that stands
 pub waits_first : (st : State) (op : Op) → waiting_op st ≡ Some op → first_of (ops st) ≡ Some op
 waits_first st op e = by_calm (is_calm st) (first_of (ops st)) op e
 
@@ -112,6 +119,7 @@ order_later : (head : Place) (arrived : ℕ) (requests : List Request) (done : �
 order_later head arrived requests done ended group [] drains due order = tt
 order_later head arrived requests done ended group (s ∷ syncs) drains due order = (not_le s.due done due, order.1)
 
+-- where no sync is due, one more op done leaves the syncs in order
 pub order_on : (st : State) → is_due st ≡ false → AreInOrder st.done st.syncs → AreInOrder (st.done + 1) st.syncs
 order_on st due order = order_later st.head st.arrived st.requests st.done st.ended st.group st.syncs st.drains due order
 
@@ -143,6 +151,7 @@ done_by : (head : Place) (arrived : ℕ) (requests : List Request) (done : ℕ) 
 done_by head arrived requests done ended group [] drains at counts = refl
 done_by head arrived requests done ended group (s ∷ syncs) drains at counts = refl
 
+-- an op that failed takes syncs away at most, and isn't done
 pub op_failed : (st : State) (at : Place) (counts : Twin) → IsFewer st.syncs (after st (Worked at (Some counts))).syncs × ((after st (Worked at (Some counts))).done ≡ st.done)
 op_failed st at counts = (
   fewer_by st.head st.arrived st.requests st.done st.ended st.group st.syncs st.drains at counts,
@@ -151,13 +160,16 @@ op_failed st at counts = (
 
 -- ---- the end of a trail
 
+-- the end of a trail is one from where its front ends
 pub trail_behind : (st : State) (xs ys : List Event) → is_trail_from st (xs ++ ys) ≡ true → is_trail_from (fold after st xs) ys ≡ true
 trail_behind st [] ys h = h
 trail_behind st (x ∷ xs) ys h = trail_behind (after st x) xs ys (right_of (allows st x) (is_trail_from (after st x) (xs ++ ys)) h)
 
+-- the first event of a trail may come
 pub first_allowed : (st : State) (e : Event) (es : List Event) → is_trail_from st (e ∷ es) ≡ true → allows st e ≡ true
 first_allowed st e es h = left_of (allows st e) (is_trail_from (after st e) es) h
 
+-- the rest of a trail is one from where its first event leads
 pub rest_allowed : (st : State) (e : Event) (es : List Event) → is_trail_from st (e ∷ es) ≡ true → is_trail_from (after st e) es ≡ true
 rest_allowed st e es h = right_of (allows st e) (is_trail_from (after st e) es) h
 

@@ -162,6 +162,7 @@ module _ {D : Type 0} (drive : Ghosts D)
       (record { asks = asks drive only_now planned limits old new most who (drained.Fault counts) safe t did trail headed; history = placed.history })
       no_events placed.fate_is
 
+  -- each turn of the head keeps a volume safe, by what it adds to the view
   pub turns_are_safe : TurnsAreSafe drive
   turns_are_safe = record {
     waiting = λ planned limits old new most who ticket answer safe t did trail headed.

@@ -8,14 +8,17 @@ use Rattle.image_laws.specs.Kept.{IsServed, Kept, Moment, Wait}
 use Rattle.image_laws.specs.Made.{Job, Made, Trees, Volume}
 use Rattle.crash_laws.specs.Safe.{wait_of}
 
+-- what holds of all of two lists holds of all of both together
 pub all_more : {X : Type 0} (P : X → Type 0) (xs ys : List X) → AllByRecursion P xs → AllByRecursion P ys → AllByRecursion P (xs ++ ys)
 all_more P [] ys all more = more
 all_more P (x ∷ xs) ys all more = (all.0, all_more P xs ys all.1 more)
 
+-- where one fact follows from another, it holds of all where that does
 pub all_weaker : {X : Type 0} (P Q : X → Type 0) (xs : List X) → ((x : X) → P x → Q x) → AllByRecursion P xs → AllByRecursion Q xs
 all_weaker P Q [] w all = tt
 all_weaker P Q (x ∷ xs) w all = (w x all.0, all_weaker P Q xs w all.1)
 
+-- what holds of all images holds of the image of each
 pub all_mapped : {X Y : Type 0} (P : Y → Type 0) (f : X → Y) (xs : List X) → AllByRecursion P (map f xs) → AllByRecursion (λ (x : X). P (f x)) xs
 all_mapped P f [] all = tt
 all_mapped P f (x ∷ xs) all = (all.0, all_mapped P f xs all.1)
@@ -25,6 +28,7 @@ all_by : (P : Wait → Type 0) (b : Bool) (s : Waiter) (kept : List Waiter) → 
 all_by P true s kept one all = (one, all)
 all_by P false s kept one all = all
 
+-- what holds of all syncs that wait holds of some of them
 pub all_filter : (P : Wait → Type 0) (p : Waiter → Bool) (syncs : List Waiter) → AllByRecursion P (map wait_of syncs)
     → AllByRecursion P (map wait_of (filter p syncs))
 all_filter P p [] all = tt

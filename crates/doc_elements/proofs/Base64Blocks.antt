@@ -44,17 +44,20 @@ block_read block rest bs size some many are is =
 
 -- ---- what is decoded is bytes
 
+-- bytes behind bytes are bytes
 pub joined : (a b : List ℕ) → IsBytes a → IsBytes b → IsBytes (a ++ b)
 joined [] b front back i = back i
 joined (x ∷ a) b front back zero = front 0
 joined (x ∷ a) b front back (suc i) = joined a b (λ k. front (suc k)) back i
 
+-- three numbers below 256 are bytes
 pub three : (x y z : ℕ) → x < 256 → y < 256 → z < 256 → IsBytes (x ∷ y ∷ z ∷ [])
 three x y z first second third zero = first
 three x y z first second third (suc zero) = second
 three x y z first second third (suc (suc zero)) = third
 three x y z first second third (suc (suc (suc i))) = omega arith
 
+-- where the first error of two is none, neither is one
 pub neither : (x y : Option DecodeError) → or_else x y ≡ None → (x ≡ None) × (y ≡ None)
 neither None y e = (refl, e)
 neither (Some x) y e = absurd (let bad : ◌≡◌ {A = Option DecodeError} (Some x) None = e in cc)
@@ -76,6 +79,7 @@ group dec s i table bytes none =
     let d = value dec s (i + 3) table bytes p2.1 in
     three _ _ _ (omega (arith, a, b)) (omega (arith, b, c)) (omega (arith, c, d))
 
+-- groups of symbols without an error stand for bytes
 pub groups : (dec s : List ℕ) (q : ℕ) → IsDecodeTable dec → IsBytes s → groups_error dec s q ≡ None → IsBytes (groups_bytes dec s q)
 unfolding groups_error groups_bytes
 groups dec s zero table bytes none i = omega arith
@@ -85,6 +89,7 @@ groups dec s (suc q) table bytes none i =
 
 -- ---- a block that stands for no 768 bytes
 
+-- a decoding that succeeds has no error
 pub outcome : (x : Option DecodeError) (d b : List ℕ) → decode_outcome x d ≡ Ok b → x ≡ None
 outcome None d b e = refl
 outcome (Some x) d b e = cc e
@@ -114,6 +119,7 @@ block_whole block rest bs size some bytes is =
     let text : encode_of standard ds ≡ block = unpadded ds many ∙ sym same in
     (ds, subst (λ t. decode_of standard t ≡ Ok ds) text (decode_of-encode_of standard ds refl (groups dec s 256 (IsDecodeTable_from enc dec inv) bytes none)), many)
 
+-- symbols whose decoding fails stand for nothing
 pub decoded_none : (s : List ℕ) (e : DecodeError) → decode_of standard s ≡ Err e → decoded_of standard s ≡ None
 unfolding decoded_of
 decoded_none s e is = ap result_ok is
@@ -124,6 +130,7 @@ joined_known : (out bs : List ℕ) (o : Option (List ℕ)) → prepend_known out
 joined_known out bs None = refl
 joined_known out bs (Some xs) = ap (λ (l : List ℕ). Some l) (sym (append_assoc out bs xs))
 
+-- a whole block in front of more symbols is decoded to 768 bytes, and the rest follows
 pub block_taken : (out block rest bs : List ℕ) → length block ≡ 1024 → 0 < length rest → length bs ≡ 768 → IsBytes block → IsBytes bs → decoded_of standard block ≡ Some bs
     → behind out (block ++ rest) ≡ behind (out ++ bs) rest
 unfolding decoded_of
@@ -131,6 +138,7 @@ block_taken out block rest bs size some many bytes are is =
     let text = decode_of_strict standard block bs (refl, refl) bytes (from_ok (decode_of standard block) bs is) in
     ap (prepend_known out) (block_read block rest bs size some many are text) ∙ joined_known out bs (decoded_of standard rest)
 
+-- where a block in front of more symbols stands for no 768 bytes, the whole stands for none
 pub block_refused : (out block rest : List ℕ) → length block ≡ 1024 → 0 < length rest → IsBytes (block ++ rest) → ((bs : List ℕ) → decoded_of standard block ≡ Some bs → length bs ≡ 768 → ⊥)
     → behind out (block ++ rest) ≡ None
 block_refused out block rest size some bytes other = cases (decode_of standard (block ++ rest)) refl
@@ -150,6 +158,7 @@ nothing_in_front (Some xs) = refl
 abbrev pub Takes : List ℕ → List ℕ → ℕ → List ℕ → List ℕ → Bool → Type 0
 Takes out block byte next more taken = (rest : List ℕ) → IsBytes rest → behind out (block ++ without_space (byte ∷ rest)) ≡ (if taken then behind next (more ++ without_space rest) else None)
 
+-- what is left of bytes is bytes
 pub dropped : (n : ℕ) (text : List ℕ) → IsBytes text → IsBytes (drop n text)
 dropped n text bytes i = subst (λ b. b < 256) (sym (get_or-drop n text i 0)) (bytes (n + i))
 
@@ -205,6 +214,7 @@ decodes_all text out block next more taken none also all is =
 pub no_bytes : (block : List ℕ) → None ≡ decoded_of standard block → (bs : List ℕ) → decoded_of standard block ≡ Some bs → length bs ≡ 768 → ⊥
 no_bytes block none bs is many = let bad : ◌≡◌ {A = Option (List ℕ)} None (Some bs) = none ∙ is in cc bad
 
+-- a block that stands for another count of bytes than 768 stands for no 768
 pub other_count : (block ds : List ℕ) → Some ds ≡ decoded_of standard block → (length ds ≡ 768 → ⊥) → (bs : List ℕ) → decoded_of standard block ≡ Some bs → length bs ≡ 768 → ⊥
 other_count block ds some other bs is many =
     let same : ◌≡◌ {A = Option (List ℕ)} (Some ds) (Some bs) = some ∙ is in
@@ -215,10 +225,12 @@ other_count block ds some other bs is many =
 abbrev pub TakesSymbol : List ℕ → List ℕ → ℕ → List ℕ → List ℕ → Bool → Type 0
 TakesSymbol out block symbol next more taken = (rest : List ℕ) → IsBytes rest → behind out (block ++ symbol ∷ rest) ≡ (if taken then behind next (more ++ rest) else None)
 
+-- a step that takes a symbol takes a byte that is no white space
 pub symbol_taken : (out block : List ℕ) (byte : ℕ) (next more : List ℕ) → is_space byte ≡ false → (taken : Bool) → TakesSymbol out block byte next more taken → Takes out block byte next more taken
 symbol_taken out block byte next more other taken step rest are =
     ap (λ b. behind out (block ++ cond (not b) (byte ∷ without_space rest) (without_space rest))) other ∙ step (without_space rest) (kept_bytes (λ b. not (is_space b)) rest are)
 
+-- what holds of an answer carries over to what follows from it
 pub if_ok : {E : Type 0} (r : Result Bool E) (P Q : Bool → Type 0) → ((b : Bool) → P b → Q b) → IfOk r P → IfOk r Q
 if_ok (Ok b) P Q each h = each b h
 if_ok (Err e) P Q each h = tt

@@ -24,12 +24,15 @@ pub told : (text bs : List ℕ) → decode_of standard (without_space text) ≡ 
 unfolding from_base64 decoded_of
 told text bs is = ap result_ok is
 
+-- bytes that were found are given
 pub bytes_found : (at : ℕ) (o : Option (List ℕ)) (bs : List ℕ) → o ≡ Some bs → some_bytes at o ≡ Ok bs
 bytes_found at o bs is = ap (some_bytes at) is
 
+-- where no bytes were found, the text is refused at its place
 pub bytes_missed : (at : ℕ) (o : Option (List ℕ)) → o ≡ None → some_bytes at o ≡ Err (errors.Syntax at)
 bytes_missed at o is = ap (some_bytes at) is
 
+-- a result of which the bytes are kept has succeeded with them
 pub from_ok : (r : Result (List ℕ) DecodeError) (bs : List ℕ) → result_ok r ≡ Some bs → r ≡ Ok bs
 from_ok (Ok x) bs e =
     let both_are : ◌≡◌ {A = Option (List ℕ)} (Some x) (Some bs) = e in
@@ -37,6 +40,7 @@ from_ok (Ok x) bs e =
     ap {B = Result (List ℕ) DecodeError} (λ y. Ok y) same
 from_ok (Err d) bs e = absurd (let bad : ◌≡◌ {A = Option (List ℕ)} None (Some bs) = e in cc)
 
+-- the bytes of a text in base64 are the decoding of its symbols without white space
 pub decoded : (text bs : List ℕ) → from_base64 text ≡ Some bs → decode_of standard (without_space text) ≡ Ok bs
 unfolding from_base64 decoded_of
 decoded text bs e = from_ok (decode_of standard (without_space text)) bs e
@@ -139,29 +143,35 @@ all_allowed (x ∷ xs) e =
 
 -- ---- what is written is read again
 
+-- base64 needs no escapes
 pub encoded_raw : (bs : List ℕ) → IsBytes bs → escape (encode_of standard bs) ≡ encode_of standard bs
 encoded_raw bs are = unescaped (encode_of standard bs) (plain_encoded bs are)
 
+-- base64 has only characters that a document may have
 pub encoded_writable : (bs : List ℕ) → IsBytes bs → IsWritable (encode_of standard bs)
 encoded_writable bs are =
     let ascii = IsAscii-encode_of standard bs in
     (IsUtf8-from_ascii (encode_of standard bs) ascii, ap (list_all is_allowed) (chars-IsAscii (encode_of standard bs) ascii) ∙ all_allowed (encode_of standard bs) (plain_encoded bs are))
 
+-- bytes that are written in base64 are read again
 pub encoded_back : (bs : List ℕ) → IsBytes bs → from_base64 (encode_of standard bs) ≡ Some bs
 encoded_back bs are =
     told (encode_of standard bs) bs (ap (decode_of standard) (unspaced (encode_of standard bs) (plain_encoded bs are)) ∙ decode_of-encode_of standard bs refl are)
 
 -- ---- what is read has one text
 
+-- a byte in front of bytes
 pub cons_bytes : (x : ℕ) (xs : List ℕ) → x < 256 → IsBytes xs → IsBytes (x ∷ xs)
 cons_bytes x xs lt are zero = lt
 cons_bytes x xs lt are (suc i) = are i
 
+-- some bytes chosen out of bytes are bytes
 pub kept_bytes : (p : ℕ → Bool) (xs : List ℕ) → IsBytes xs → IsBytes (filter p xs)
 kept_bytes p [] are = are
 kept_bytes p (x ∷ xs) are =
     let rest = kept_bytes p xs (λ i. are (suc i)) in
     elim (p x) as (λ b. IsBytes (cond b (x ∷ filter p xs) (filter p xs))) [ true ↦ cons_bytes x (filter p xs) (are 0) rest | false ↦ rest ]
 
+-- a text in base64, without its white space, is the encoding of the bytes it stands for
 pub one_text : (text bs : List ℕ) → IsBytes text → from_base64 text ≡ Some bs → without_space text ≡ encode_of standard bs
 one_text text bs are e = decode_of_strict standard (without_space text) bs (refl, refl) (kept_bytes (λ b. not (is_space b)) text are) (decoded text bs e)

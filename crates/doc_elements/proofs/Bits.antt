@@ -74,5 +74,6 @@ test_bit : (b : Bool) → nat_eq (bit b) 1 ≡ b
 test_bit true = refl
 test_bit false = refl
 
+-- the bit of an element is set just if the element is among those
 pub has_is : (t : Tag) (ts : List Tag) → nat_eq (bit_and (bits_of ts / 2 ^ code t) 1) 1 ≡ member t ts
 has_is t ts = rw (shr_and_one (bits_of ts) (code t), bit_is t ts) (test_bit (member t ts))

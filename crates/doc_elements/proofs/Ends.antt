@@ -214,6 +214,7 @@ by_utf8 doc text ps acc = ⊎_elim
     (λ cut. inr (errors.Syntax (length (readable text)), inr (record { ps = ps; accepts = acc; more = cut }, refl)))
     (utf8_or_cut text)
 
+-- each text is whole pieces of the document, or stops somewhere
 pub accepted_or_stops : (doc : Container) (text : List ℕ) → IsAccepted doc text ⊎ IsStopped doc text
 accepted_or_stops doc text = ⊎_elim
     (λ (whole : Whole doc (readable text)). by_utf8 doc text whole.0 whole.1)

@@ -22,10 +22,12 @@ use Rattle.doc_elements.proofs.Parents.{rule_tag}
 
 -- ---- tools
 
+-- where two steps succeed together, each of them does
 pub bind_ok : {A B : Type 0} (r : Result A PieceErr) (f : A → Result B PieceErr) (y : B) → (r >>= f) ≡ Ok y → (x : A) × (r ≡ Ok x) × (f x ≡ Ok y)
 bind_ok (Ok x) f y e = (x, refl, e)
 bind_ok (Err d) f y e = absurd cc
 
+-- a reading that succeeds as a piece's part succeeds by itself
 pub lift_ok : {A : Type 0} (r : Read A) (x : A) → lift r ≡ Ok x → r ≡ Ok x
 lift_ok (Ok y) x e = let same : y ≡ x = cc in ap (λ z. Ok z) same
 lift_ok (Err d) x e = absurd cc
@@ -46,6 +48,7 @@ pub record Allowed (f : Frame) (nodes : ℕ) (tag : Tag) (c : Child) : Type 0 wh
   pub follows : MayFollow f.place f.seen tag
   pub room : (opens_node c && nat_le most_nodes nodes) ≡ false
 
+-- where a refusal was possible and there is none, its cause is not there
 pub unless_ok : {A : Type 0} (b : Bool) (d : PieceErr) (r : Result A PieceErr) (y : A) → cond b (Err d) r ≡ Ok y → (b ≡ false) × (r ≡ Ok y)
 unless_ok true d r y e = absurd cc
 unless_ok false d r y e = (refl, e)
@@ -55,6 +58,7 @@ known_ok child.Unknown at v c e = absurd cc
 known_ok (child.Leaf form) at v c e = e
 known_ok (child.Parent q) at v c e = e
 
+-- a child that gets a favourable verdict is allowed
 pub verdict_ok : (f : Frame) (nodes at : ℕ) (tag : Tag) (c : Child) → verdict f nodes at tag ≡ Ok c → Allowed f nodes tag c
 unfolding verdict
 verdict_ok f nodes at tag c e =
@@ -139,6 +143,7 @@ close_is text f nodes at p next e =
     let pair : ◌≡◌ {A = Piece × ℕ} (closes, a.0) (p, next) = cc (b.2) in
     subst (λ (x : Piece × ℕ). What text f nodes at x.0 x.1) pair (lift_ok _ a.0 a.1, missing_ok _ b.0 b.1)
 
+-- a piece that is read is what the rules say of its kind
 pub piece_is : (text : List ℕ) (f : Frame) (nodes at : ℕ) (p : Piece) (next : ℕ) → piece_at f nodes text at ≡ Ok (p, next) → What text f nodes (space_end text at) p next
 unfolding piece_at
 piece_is text f nodes at p next e =
@@ -151,6 +156,7 @@ piece_is text f nodes at p next e =
 
 -- ---- where such a piece stands, it is read
 
+-- where the rules of a piece hold, that piece is read
 pub is_piece : (text : List ℕ) (f : Frame) (nodes at : ℕ) (p : Piece) (next : ℕ) → What text f nodes (space_end text at) p next → piece_at f nodes text at ≡ Ok (p, next)
 unfolding piece_at close_at child_at made
 is_piece text f nodes at closes next w =

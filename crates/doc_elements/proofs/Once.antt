@@ -13,6 +13,7 @@ abbrev pub Final : List ℕ → ℕ → List Frame → ℕ → Type 0
 Final text at [] nodes = Unit {0}
 Final text at (f ∷ fs) nodes = (e : PieceErr) × (piece_at f nodes text at ≡ Err e)
 
+-- at this point no further piece is read
 abbrev pub IsFinal : List ℕ → Point → Type 0
 IsFinal text end = Final text end.at end.parents end.nodes
 
@@ -95,10 +96,12 @@ one_halt doc text e f (at_end ps end o none ne) (at_end qs to x nothing ne2) =
 
 -- ---- the text in UTF-8
 
+-- a text that is a whole document stops nowhere
 pub never_both : (doc : Container) (text : List ℕ) (ps : List Piece) (e : PieceErr) → IsUtf8 text → Accepts doc text ps → StopsAt doc text e → ⊥
 never_both doc text ps e valid x (inl h) = not_both doc text ps e x (subst (λ (t : List ℕ). Halts doc t e) (readable_all text valid) h)
 never_both doc text ps e valid x (inr r) = r.0.more (ap length (readable_all text valid))
 
+-- a text stops at one place and for one reason
 pub one_stop : (doc : Container) (text : List ℕ) (e f : PieceErr) → StopsAt doc text e → StopsAt doc text f → e ≡ f
 one_stop doc text e f (inl h) (inl k) = one_halt doc (readable text) e f h k
 one_stop doc text e f (inl h) (inr r) = absurd (not_both doc (readable text) r.0.ps e r.0.accepts h)

@@ -76,6 +76,7 @@ xattr_tag : (tag : Tag) (q : Container) → xattr_rule tag ≡ child.Parent q �
 xattr_tag Key q e = absurd cc
 xattr_tag _ q e = absurd cc
 
+-- an element that the rules read as a parent has that parent's name
 pub rule_tag : (p : Container) (tag : Tag) (q : Container) → rule p tag ≡ child.Parent q → tag_of q ≡ tag
 rule_tag place.Label tag q e = label_tag tag q e
 rule_tag place.Own tag q e = own_tag tag q e

@@ -21,6 +21,7 @@ few_opens place.Directory n room few = omega (arith, room refl)
 few_opens place.File n room few = omega (arith, room refl)
 few_opens _ n room few = few
 
+-- a piece for which there is room leaves at most 65,536 nodes
 pub few_counted : (p : code_piece.Piece) (n : ℕ) → HasRoom p n → n ≤ most_nodes → counted (piece_of p) n ≤ most_nodes
 few_counted (code_pieces.Opens q) n room few = few_opens q n room few
 few_counted (code_pieces.Whole q) n room few = few_opens q n room few
@@ -29,9 +30,11 @@ few_counted (code_pieces.Leaf tag v) n room few = few
 
 -- ---- one piece more
 
+-- a place in the text, the open parents and the count of nodes begun
 abbrev pub point : ℕ → List Frame → ℕ → Point
 point at fs nodes = record { at = at; parents = fs; nodes = nodes }
 
+-- a piece that is read leads on to the point behind it
 pub reaches_more : (text : List ℕ) (ps : List Piece) (a : ℕ) (from : List Frame) (m at : ℕ) (f : Frame) (fs : List Frame) (n : ℕ) (p : Piece) (next : ℕ)
     → Reaches text ps a from m (point at (f ∷ fs) n) → piece_at f n text at ≡ Ok (p, next) → Reaches text (ps ++ p ∷ []) a from m (point next (after p f fs) (counted p n))
 reaches_more text [] a [] m at f fs n p next h e = absurd (let bad : f ∷ fs ≡ [] = ap (λ (x : Point). x.parents) h in cc)
@@ -49,6 +52,7 @@ reaches_more text (q ∷ ps) a (g ∷ gs) m at f fs n p next h e = (h.0, h.1, re
 
 -- ---- what doesn't fit
 
+-- a refusal other than for want of memory is the one that reading gives
 pub unless_memory : (e : PieceErr) (r : Result (Piece × ℕ) PieceErr) (Q : Type 0) → (r ≡ Err e → Q) → Fails e r → UnlessMemory e Q
 unless_memory errors.NoMemory r Q f h = tt
 unless_memory _ r Q f h = f h

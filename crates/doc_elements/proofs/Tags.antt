@@ -41,6 +41,7 @@ named_opens text at t e =
     let n : (byte text (at + 1) == 47) ≡ false = name_begins text (at + 1) b.0 (ap (name_at text) o.1 ∙ b.1) in
     rw (o.0, n) refl
 
+-- an end tag begins with a less-than sign and a slash
 pub end_closes : (text : List ℕ) (at : ℕ) (tag : Tag) (next : ℕ) → end_at text at tag ≡ Ok next → (byte text at == 60 && byte text (at + 1) == 47) ≡ true
 unfolding end_at
 end_closes text at tag next e =

@@ -100,6 +100,7 @@ piece_timed text f nodes at (leaf tag v) next w = leaf_timed w.0 tag at w.1 text
 piece_timed text f nodes at closes next w = tt
 piece_timed text f nodes at _ next w = tt
 
+-- each time among the pieces that were read is that of a moment
 pub reached_timed : (text : List ℕ) (ps : List Piece) (at : ℕ) (fs : List Frame) (nodes : ℕ) (end : Point) → Reaches text ps at fs nodes end
     → AllByRecursion IsTimedPiece ps
 reached_timed text [] at fs nodes end r = tt

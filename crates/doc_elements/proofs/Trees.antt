@@ -173,6 +173,7 @@ nothing_left : (text : List ℕ) (qs : List Piece) (at n : ℕ) (to : Point) →
 nothing_left text [] at n to r = (refl, sym (ap (λ (x : Point). x.at) r))
 nothing_left text (q ∷ qs) at n to r = absurd r
 
+-- the pieces of a document that is read are those of elements it spells
 pub elements_of : (doc : Container) (text : List ℕ) (ps : List Piece) → IsUtf8 text → Accepts doc text ps → IsMade doc text ps
 elements_of doc text ps valid x =
     let o = x.opened in
@@ -194,6 +195,7 @@ elements_of doc text ps valid x =
       few = omega (arith, p.few (omega arith));
     }
 
+-- a document that spells elements with few enough nodes is read as their pieces
 pub accepted : (doc : Container) (text : List ℕ) (items : Items) → DocumentText doc text items → node_count items ≤ most_nodes → Accepts doc text (all_pieces items ++ closes ∷ [])
 accepted doc text items d few = record {
   point = point d.after [] (0 + node_count items);
@@ -202,5 +204,6 @@ accepted doc text items d few = record {
   ended = d.ended;
 }
 
+-- pieces of elements that a document spells are accepted
 pub made_accepted : (doc : Container) (text : List ℕ) (ps : List Piece) → IsMade doc text ps → Accepts doc text ps
 made_accepted doc text ps m = subst (λ (l : List Piece). Accepts doc text l) (sym m.split) (accepted doc text m.items m.spelled m.few)

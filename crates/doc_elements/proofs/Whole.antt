@@ -11,14 +11,17 @@ use Rattle.doc_elements.specs.Pieces.{lift, refusal}
 use Rattle.doc_elements.specs.Documents.{head_of, Halts, Halted, at_piece, readable}
 use Rattle.doc_elements.specs.Answers.{UnlessMemory}
 
+-- what holds in any case holds unless memory was refused
 pub unless_always : (e : PieceErr) (P : Type 0) → P → UnlessMemory e P
 unless_always errors.NoMemory P p = tt
 unless_always _ P p = p
 
+-- what follows from a fact follows from it unless memory was refused
 pub unless_map : (e : PieceErr) (P Q : Type 0) → (P → Q) → UnlessMemory e P → UnlessMemory e Q
 unless_map errors.NoMemory P Q f p = tt
 unless_map _ P Q f p = f p
 
+-- a halt behind the root's start tag is a halt of the document
 pub halted_halts : (doc : Container) (text : List ℕ) (inside : ℕ) (e : PieceErr) → head_of doc text ≡ Ok inside → Halted doc text inside e → Halts doc text e
 halted_halts doc text inside e h x = at_piece x.ps x.point x.f x.fs (record { inside = inside; head_is = h; reaches = x.reaches }) x.parents x.fails
 

@@ -52,6 +52,7 @@ tags_valid place.Label is = (ascii_valid (start_text LtfsLabel Version) refl, as
 tags_valid place.Index is = (ascii_valid (start_text LtfsIndex Version) refl, ascii_valid (end_text LtfsIndex) refl)
 tags_valid _ is = absurd cc
 
+-- a document written round elements that are spelled in it spells them
 pub written_document : (doc : Container) (text body : List ℕ) (items : Items) → begins doc (tag_of doc) ≡ true → text ≡ framed doc body → IsUtf8 body
     → (drop (inner doc) text ≡ body ++ end_text (tag_of doc) → AllSpelled text doc [] (inner doc) items (inner doc + length body)) → DocumentText doc text items
 written_document doc text body items is e valid children =

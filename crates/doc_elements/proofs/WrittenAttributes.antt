@@ -23,6 +23,7 @@ use Rattle.doc_elements.proofs.Base64Lemmas.{encoded_back, encoded_raw, encoded_
 use Rattle.doc_elements.proofs.WrittenItems.{ReadsBack}
 use Rattle.doc_elements.proofs.WrittenNames.{name_in_back, valid_name}
 
+-- the key of an extended attribute is read again
 pub key_back : (key : List ℕ) → IsUtf8 key → is_key key ≡ true → ReadsBack form.Key Key (words key)
 key_back key u good = record { again = λ text from start rest a e. name_in_back form.Key key u good text from start rest a e; valid = valid_name key u }
 
@@ -73,6 +74,7 @@ again_by bs s text start rest a e =
     shown_back s.shown bs s.coded s.writable s.told text start rest kind here
     ∙ ap {B = Result (Val × ℕ) PieceErr} (λ (l : List ℕ). Ok (bytes bs, start.next + length l)) (sym s.text)
 
+-- the value of an extended attribute is read again
 pub value_back : (bs : List ℕ) → IsBytes bs → ReadsBack form.Value Value (bytes bs)
 value_back bs are =
     let s = shown_by bs are (is_text bs) refl in

@@ -34,11 +34,13 @@ shown tag text = by (is_escapable tag)
     by true = written text
     by false = record { text = text; percent = false }
 
+-- the attribute with which a leaf's value is written
 abbrev pub attribute_of : Tag → Val → Attribute
 attribute_of tag (words text) = encoding (shown tag text)
 attribute_of tag (bytes bs) = bytes_type bs
 attribute_of tag _ = Absent
 
+-- the text with which a leaf's value is written
 abbrev pub content_of : Tag → Val → List ℕ
 content_of tag (words text) = escape (shown tag text).text
 content_of tag (time c) = civil_text c
@@ -76,9 +78,11 @@ abbrev pub is_none : Option Tag → Bool
 is_none None = true
 is_none (Some tag) = false
 
+-- whether an element may stand behind these others in a parent
 abbrev pub may_follow : Container → List Tag → Tag → Bool
 may_follow p seen tag = not (has_any (excludes tag) seen) && not (member tag seen && not (may_repeat p tag))
 
+-- whether elements may stand one behind the other, with all that are required
 abbrev pub stand : Container → List Tag → Items → Bool
 stand p seen no_items = is_none (first_missing (required p) seen)
 stand p seen (item i is) = may_follow p seen (item_tag i) && stand p (item_tag i ∷ seen) is

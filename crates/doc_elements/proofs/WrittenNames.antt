@@ -58,6 +58,7 @@ encoded_is name = go (written name).percent
     go true = refl
     go false = refl
 
+-- the text of a name, as it is written, is read as that name
 pub name_in_back : (f : Form) (name : List ℕ) → IsUtf8 name → is_name f name ≡ true → (text : List ℕ) (from : ℕ) (start : Start) (rest : List ℕ) → start.attribute ≡ encoding (written name) → drop start.next text ≡ escape (written name).text ++ 60 ∷ rest → name_in f from start text ≡ Ok (words name, start.next + length (escape (written name).text))
 unfolding name_in
 name_in_back f name u good text from start rest a e =
@@ -67,5 +68,6 @@ name_in_back f name u good text from start rest a e =
     let name_is : decoded (is_encoded start.attribute) (written name).text ≡ name = ap (λ (x : Attribute). decoded (is_encoded x) (written name).text) a ∙ ap (λ (b : Bool). decoded b (written name).text) (encoded_is name) ∙ (written_back name u).bytes in
     rw (read, test, name_is, utf8_is name u, good) refl
 
+-- the text of a name, as it is written, is UTF-8
 pub valid_name : (name : List ℕ) → IsUtf8 name → IsUtf8 (escape (written name).text)
 valid_name name u = escape_valid (written name).text (name_writable name u)

@@ -22,9 +22,11 @@ use Rattle.doc_elements.specs.declared.schema.Form.TheVariants as form
 use Rattle.doc_elements.specs.Pieces.{words, time, uuid, letter, number, truth, is_too_great, least, number_in, value_in}
 use Rattle.doc_elements.proofs.WrittenItems.{ReadsBack}
 
+-- a text between its tags is read again
 pub words_in_back : (t : List ℕ) → IsWritable t → (text : List ℕ) (from : ℕ) (start : Start) (rest : List ℕ) → drop start.next text ≡ escape t ++ 60 ∷ rest → value_in form.Text from start text ≡ Ok (words t, start.next + length (escape t))
 words_in_back t plain text from start rest e = rw (text_again text start.next t rest plain e) refl
 
+-- the text of the creator is read again
 pub creator_back : (t : List ℕ) → IsWritable t → ReadsBack form.Text Creator (words t)
 creator_back t plain = record { again = λ text from start rest a e. words_in_back t plain text from start rest e; valid = escape_valid t plain }
 
@@ -32,6 +34,7 @@ creator_back t plain = record { again = λ text from start rest a e. words_in_ba
 pub behind : (text : List ℕ) (at : ℕ) (s rest : List ℕ) → drop at text ≡ s ++ 60 ∷ rest → space_end text (at + length s) ≡ at + length s
 behind text at s rest e = space_again text (at + length s) 60 rest (next_is text at s (60 ∷ rest) e) refl
 
+-- a date and time of day is read again
 pub time_back : (tag : Tag) (c : Civil) (m : Moment) → c ≡ civil_of m → ReadsBack form.Time tag (time c)
 unfolding time_text
 time_back tag c m when = rw when record {
@@ -45,6 +48,7 @@ time_back tag c m when = rw when record {
   valid = civil_valid (civil_of m);
 }
 
+-- a UUID is read again
 pub uuid_back : (tag : Tag) (n : ℕ) → n < 2 ^ 128 → ReadsBack form.Uuid tag (uuid n)
 uuid_back tag n fits = record {
   again = λ text from start rest a e.
@@ -60,6 +64,7 @@ uuid_back tag n fits = record {
 letter_stops : (b : ℕ) → 97 ≤ b → is_space b ≡ false
 letter_stops b low = grind (arith, nat_tests)
 
+-- the letter of a partition is read again
 pub letter_back : (tag : Tag) (b : ℕ) → 97 ≤ b → b ≤ 122 → ReadsBack form.Letter tag (letter b)
 letter_back tag b low high = record {
   again = λ text from start rest a e.
@@ -79,6 +84,7 @@ number_in_back f n fits most low text at rest e =
     let after = behind text at (decimal n) rest e in
     rw (here, read, most, low, after) refl
 
+-- a truth value is read again
 pub truth_back : (tag : Tag) (is : Bool) → ReadsBack form.Truth tag (truth is)
 truth_back tag is = record {
   again = λ text from start rest a e.

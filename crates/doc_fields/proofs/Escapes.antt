@@ -25,6 +25,7 @@ escape_more text i lt = ap escape (take_more text i 0 lt) ∙ flat_map-append es
 pub begins_kept : (old text : List ℕ) → IsKept old old text 0 0
 begins_kept old text = record { ordered = omega arith; front = ([], sym (append-nil old)); so_far = refl }
 
+-- a byte that is written as itself joins the run that is still to be copied
 pub plain_kept : (old out text : List ℕ) (from i : ℕ) → i < length text → escaped (get_or text i 0) ≡ get_or text i 0 ∷ [] → IsKept old out text from i → IsKept old out text from (i + 1)
 plain_kept old out text from i lt plain h = record {
   ordered = omega (arith, h.ordered);
@@ -33,6 +34,7 @@ plain_kept old out text from i lt plain h = record {
       ∙ append_assoc old (escape (take i text)) (get_or text i 0 ∷ []) ∙ ap (λ (l : List ℕ). old ++ l) (ap (λ (e : List ℕ). escape (take i text) ++ e) (sym plain) ∙ sym (escape_more text i lt));
 }
 
+-- a byte that is escaped ends the run: the run and its escape are written
 pub escape_kept : (old out run new text word : List ℕ) (from i : ℕ) → i < length text → escaped (get_or text i 0) ≡ word → run ≡ out ++ slice_range text from i → new ≡ run ++ word → IsKept old out text from i → IsKept old new text (i + 1) (i + 1)
 escape_kept old out run new text word from i lt is put_run put_word h =
     let all : new ≡ old ++ escape (take (i + 1) text) = put_word ∙ ap (λ (l : List ℕ). l ++ word) (put_run ∙ h.so_far) ∙ append_assoc old (escape (take i text)) word ∙ ap (λ (l : List ℕ). old ++ l) (ap (λ (e : List ℕ). escape (take i text) ++ e) (sym is) ∙ sym (escape_more text i lt)) in

@@ -56,6 +56,7 @@ run_after p at (b ∷ bytes) = elim (p b) as (λ v. at ≤ cond v (run_end p (at
   | false ↦ omega arith
 ]
 
+-- white space ends no earlier than it begins
 pub space_after : (text : List ℕ) (at : ℕ) → at ≤ space_end text at
 unfolding space_end
 space_after text at = run_after is_space at (drop at text)
@@ -168,6 +169,7 @@ version_after tag from text at (Some name) s low e =
     let g = guard (is_version (between text v.0.0 v.0.1)) (behind_at tag _ from text (v.0.1 + 1)) _ s v.2 in
     omega (arith, low, value_after text name.1 v.0 v.1, behind_after tag _ from text (v.0.1 + 1) s g.1)
 
+-- the rest of a start tag ends behind the place where it begins
 pub rest_after : (tag : Tag) (from : ℕ) (text : List ℕ) (at : ℕ) (s : Start) → rest_at tag from text at ≡ Ok s → at < s.next
 unfolding rest_at
 rest_after tag from text at s e =
@@ -179,6 +181,7 @@ rest_after tag from text at s e =
     by o low (inl h) = version_after tag from text at o s low h
     by o low (inr h) = first_after tag from text at o s low h
 
+-- the name of a start tag begins within the text and ends behind its beginning
 pub named_after : (text : List ℕ) (at : ℕ) (t : Tag × ℕ) → named_at text at ≡ Ok t → (at < length text) × (at < t.1)
 unfolding named_at
 named_after text at t e =
@@ -189,6 +192,7 @@ named_after text at t e =
     let end : b.0 ≡ t.1 = ap (λ (p : Tag × ℕ). p.1) (same_ok _ t d.2) in
     (within text at (omega (arith, one.0)), omega (arith, one.1, name_after text a.0 b.0 b.1, end))
 
+-- an end tag begins within the text and ends behind its beginning
 pub end_after : (text : List ℕ) (at : ℕ) (tag : Tag) (n : ℕ) → end_at text at tag ≡ Ok n → (at < length text) × (at < n)
 unfolding end_at
 end_after text at tag n e =
@@ -208,11 +212,13 @@ number_of_after at d n e =
     let b = unless (nat_lt (at + 20) d.1) (cond (nat_lt d.0 (2 ^ 64)) (Ok d) (fault why.Number at)) _ n a in
     same_ok d n (guard (nat_lt d.0 (2 ^ 64)) (Ok d) _ n b).1
 
+-- a number ends no earlier than it begins
 pub number_after : (text : List ℕ) (at : ℕ) (n : ℕ × ℕ) → number_at text at ≡ Ok n → at ≤ n.1
 unfolding number_at
 number_after text at n e =
     subst (λ (p : ℕ × ℕ). at ≤ p.1) (number_of_after at (digits 0 at (drop at text)) n e) (digits_after 0 at (drop at text))
 
+-- a text ends no earlier than it begins
 pub text_after : (text : List ℕ) (at : ℕ) (v : List ℕ × ℕ) → text_at text at ≡ Ok v → at ≤ v.1
 unfolding text_at text_end
 text_after text at v e =
@@ -220,6 +226,7 @@ text_after text at v e =
     let end = ap (λ (p : List ℕ × ℕ). p.1) (same_ok _ v a.2) in
     subst (λ (n : ℕ). at ≤ n) end (run_after _ at (drop at text))
 
+-- a date and time of day ends no earlier than it begins
 pub time_after : (text : List ℕ) (at : ℕ) (v : Civil × ℕ) → time_at text at ≡ Ok v → at ≤ v.1
 unfolding time_at
 time_after text at v e = by (shown 30 civil_in text at) e
@@ -228,6 +235,7 @@ time_after text at v e = by (shown 30 civil_in text at) e
     by None h = absurd (no_fault _ v h)
     by (Some c) h = omega (arith, ap (λ (p : Civil × ℕ). p.1) (same_ok _ v h))
 
+-- a UUID ends no earlier than it begins
 pub uuid_after : (text : List ℕ) (at : ℕ) (v : ℕ × ℕ) → uuid_at text at ≡ Ok v → at ≤ v.1
 unfolding uuid_at
 uuid_after text at v e = by (shown 36 uuid_in text at) e
@@ -236,6 +244,7 @@ uuid_after text at v e = by (shown 36 uuid_in text at) e
     by None h = absurd (no_fault _ v h)
     by (Some c) h = omega (arith, ap (λ (p : ℕ × ℕ). p.1) (same_ok _ v h))
 
+-- a letter ends no earlier than it begins
 pub letter_after : (text : List ℕ) (at : ℕ) (v : ℕ × ℕ) → letter_at text at ≡ Ok v → at ≤ v.1
 unfolding letter_at
 letter_after text at v e =
@@ -250,10 +259,12 @@ word_after {A} words text at v e = by (first_word words (drop at text)) e
     by None h = absurd (no_fault _ v h)
     by (Some w) h = omega (arith, ap (λ (p : A × ℕ). p.1) (same_ok _ v h))
 
+-- a truth value ends no earlier than it begins
 pub bool_after : (text : List ℕ) (at : ℕ) (v : Bool × ℕ) → bool_at text at ≡ Ok v → at ≤ v.1
 unfolding bool_at
 bool_after text at v e = word_after ((codes "true", true) ∷ (codes "false", false) ∷ (codes "1", true) ∷ (codes "0", false) ∷ []) text at v e
 
+-- the state of a lock ends no earlier than it begins
 pub lock_after : (text : List ℕ) (at : ℕ) (v : LockState × ℕ) → lock_at text at ≡ Ok v → at ≤ v.1
 unfolding lock_at
 lock_after text at v e = word_after ((lock_word Unlocked, Unlocked) ∷ (lock_word Locked, Locked) ∷ (lock_word PermLocked, PermLocked) ∷ []) text at v e

@@ -17,6 +17,7 @@ told_again part v text at rest ok is e =
     let word = between_again text (at + length (label part) + 1) v (34 ∷ rest) b in
     rw (l, q, word, is) refl
 
+-- the declaration that is written in front of a document is read, with its 38 bytes
 pub head_again : (text rest : List ℕ) → drop 0 text ≡ codes "<?xml version=\"1.0\" encoding=\"UTF-8\"?>" ++ rest → head_at text 0 ≡ Ok 38
 unfolding head_at parts_at encoding_at standalone_at
 head_again text rest e =

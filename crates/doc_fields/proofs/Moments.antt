@@ -132,6 +132,7 @@ shown_time : (text : List ℕ) (at : ℕ) (b : Bool) (c : Civil) → cond b (civ
 shown_time text at true c e = read_moment (between text at (at + 30)) c e
 shown_time text at false c e = absurd (let wrong : None ≡ Some c = e in cc)
 
+-- a date and time of day that is read is that of a moment
 pub time_read : (text : List ℕ) (at : ℕ) (x : Civil × ℕ) → time_at text at ≡ Ok x → HasMoment x.0
 unfolding time_at
 time_read text at x e = by (shown 30 civil_in text at) refl e

@@ -134,11 +134,13 @@ not_named name t g other =
     ] in
     either (tag_named name) refl
 
+-- no element has an empty name
 pub none_empty : (name : List ℕ) → length name ≡ 0 → None ≡ tag_named name
 unfolding tag_named
 none_empty [] e = refl
 none_empty (b ∷ name) e = absurd (omega arith)
 
+-- a test that holds just where two names are the same is that comparison
 pub same_when : (b : Bool) (xs ys : List ℕ) → (IsTrue b ↔ (xs ≡ ys)) → b ≡ same xs ys
 same_when true xs ys h = sym ((bytes_decides xs ys).1 (h.0 refl))
 same_when false xs ys h =

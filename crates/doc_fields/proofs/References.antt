@@ -4,19 +4,23 @@ use Rattle.std.proofs.lemmas.List.{at_drop_more, at_drop_all}
 use Rattle.std.proofs.lemmas.Bool.Decides.{nat_tests}
 use Rattle.doc_fields.specs.Texts.{digit_of, finished, is_allowed, numbered, is_cut_number, and_then, and_also}
 
+-- a digit is taken into the number of a reference
 pub numbered_more : (base n k d : ℕ) (bytes : List ℕ) (i : ℕ) → i < length bytes → (get_or bytes i 0 ≡ 59 → ⊥) → digit_of base (get_or bytes i 0) ≡ Some d → numbered base n k (drop i bytes) ≡ numbered base (n * base + d) (k + 1) (drop (i + 1) bytes)
 numbered_more base n k d bytes i lt ne e =
     let other : eqb (get_or bytes i 0) 59 ≡ false = grind (arith, nat_tests) in
     at_drop_more (numbered base n k) bytes i 0 lt ∙ rw (other, e) refl
 
+-- a reference with a byte that is no digit of its base is none
 pub numbered_stops : (base n k : ℕ) (bytes : List ℕ) (i : ℕ) → i < length bytes → (get_or bytes i 0 ≡ 59 → ⊥) → digit_of base (get_or bytes i 0) ≡ None → numbered base n k (drop i bytes) ≡ None
 numbered_stops base n k bytes i lt ne e =
     let other : eqb (get_or bytes i 0) 59 ≡ false = grind (arith, nat_tests) in
     at_drop_more (numbered base n k) bytes i 0 lt ∙ rw (other, e) refl
 
+-- at the semicolon a reference stands for the character with its number, if there is one
 pub numbered_ends : (base n k : ℕ) (bytes : List ℕ) (i : ℕ) → i < length bytes → get_or bytes i 0 ≡ 59 → numbered base n k (drop i bytes) ≡ finished n (k + 1)
 numbered_ends base n k bytes i lt e = at_drop_more (numbered base n k) bytes i 0 lt ∙ rw e refl
 
+-- a reference whose semicolon is missing is none
 pub numbered_done : (base n k : ℕ) (bytes : List ℕ) (i : ℕ) → length bytes ≤ i → numbered base n k (drop i bytes) ≡ None
 numbered_done base n k bytes i all = at_drop_all (numbered base n k) bytes i all
 
@@ -46,17 +50,22 @@ large_false base n (b ∷ rest) one h =
     let go : (o : Option ℕ) → and_also o (λ d. is_cut_number base (n * base + d) rest) ≡ false = λ o. elim o as (λ o. and_also o (λ d. is_cut_number base (n * base + d) rest) ≡ false) [ None ↦ refl | Some d ↦ large_false base (n * base + d) rest one (grows base n d h one) ] in
     go (digit_of base b)
 
+-- a reference whose number is past the last character is none
 pub numbered_large : (base n k : ℕ) (bytes : List ℕ) (i : ℕ) → 1 ≤ base → 0x10FFFF < n → numbered base n k (drop i bytes) ≡ None
 numbered_large base n k bytes i one h = large_none base n k (drop i bytes) one h
 
+-- a digit is taken into the number of a reference that the document's end may cut
 pub cut_more : (base n d : ℕ) (bytes : List ℕ) (i : ℕ) → i < length bytes → digit_of base (get_or bytes i 0) ≡ Some d → is_cut_number base n (drop i bytes) ≡ is_cut_number base (n * base + d) (drop (i + 1) bytes)
 cut_more base n d bytes i lt e = at_drop_more (is_cut_number base n) bytes i 0 lt ∙ rw e refl
 
+-- a byte that is no digit shows that a reference is not merely cut off
 pub cut_stops : (base n : ℕ) (bytes : List ℕ) (i : ℕ) → i < length bytes → digit_of base (get_or bytes i 0) ≡ None → is_cut_number base n (drop i bytes) ≡ false
 cut_stops base n bytes i lt e = at_drop_more (is_cut_number base n) bytes i 0 lt ∙ rw e refl
 
+-- digits up to the end are a reference that is cut off, if their number is not too large
 pub cut_ends : (base n : ℕ) (bytes : List ℕ) (i : ℕ) → length bytes ≤ i → is_cut_number base n (drop i bytes) ≡ nat_le n 0x10FFFF
 cut_ends base n bytes i all = at_drop_all (is_cut_number base n) bytes i all
 
+-- a number past the last character is no reference that is cut off
 pub cut_large : (base n : ℕ) (bytes : List ℕ) (i : ℕ) → 1 ≤ base → 0x10FFFF < n → is_cut_number base n (drop i bytes) ≡ false
 cut_large base n bytes i one h = large_false base n (drop i bytes) one h

@@ -55,6 +55,7 @@ each cut at (c ∷ cs) valid e =
     let rest = each cut (at + length (encode_utf8 c)) cs parts.1 simple.1 in
     rw (h.allowed, h.no_reference, h.no_return) (ap (put_front c) rest)
 
+-- a text of bytes that each stand for themselves is read as it is
 pub simple_text : (cut : Bool) (at : ℕ) (text : List ℕ) → IsUtf8 text → list_all is_simple text ≡ true → resolved_text cut at text ≡ Ok text
 unfolding resolved_text
 simple_text cut at text valid e =
@@ -62,6 +63,7 @@ simple_text cut at text valid e =
     let all = each cut at (chars text) (scalars-chars text valid) (ap (list_all is_simple) bytes ∙ e) in
     ap (λ (r : Read (List ℕ)). r >>= λ cs. Ok (encode_utf8_all cs)) all ∙ ap Ok bytes
 
+-- a run that is UTF-8 is read as a whole
 pub run_whole : (ended : Bool) (at : ℕ) (run : List ℕ) → IsUtf8 run → run_text ended at run ≡ resolved_text ended at run
 unfolding run_text
 run_whole ended at run valid =

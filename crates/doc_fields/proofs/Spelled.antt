@@ -17,6 +17,7 @@ front a b c d patch two point least most dot some few digits =
     let minor : c ≡ 48 + (c - 48) = omega arith in
     record { minor = c - 48; known = omega arith; patch = patch; some = some; few = few; digits = digits; is = ap (λ k. k ∷ b ∷ c ∷ d ∷ patch) two ∙ ap (λ k. 50 ∷ k ∷ c ∷ d ∷ patch) point ∙ ap (λ k. 50 ∷ 46 ∷ k ∷ d ∷ patch) minor ∙ ap (λ k. 50 ∷ 46 ∷ (48 + (c - 48)) ∷ k ∷ patch) dot }
 
+-- a version that is accepted is spelled by the rules
 pub version_spelled : (v : List ℕ) → is_version v ≡ true → IsVersion v
 unfolding is_version
 version_spelled [] e = absurd cc
@@ -37,6 +38,7 @@ version_known minor (x ∷ y ∷ []) known some few digits = grind (arith, nat_t
 version_known minor (x ∷ y ∷ z ∷ []) known some few digits = grind (arith, nat_tests)
 version_known minor (x ∷ y ∷ z ∷ t ∷ more) known some few digits = absurd (omega arith)
 
+-- a version that is spelled by the rules is accepted
 pub version_read : (v : List ℕ) → IsVersion v → is_version v ≡ true
 version_read v h = ap is_version h.is ∙ version_known h.minor h.patch h.known h.some h.few h.digits
 
@@ -94,6 +96,7 @@ hexadecimal_read digits rest c e ok =
     let there : 2 + length digits + 1 ≡ length (35 ∷ 120 ∷ digits ++ 59 ∷ []) = omega (arith, length-append digits (59 ∷ [])) in
     numbered_spelled 16 0 2 digits rest c e ∙ finished_ok c _ ok ∙ ap (λ m. Some (c, m)) there
 
+-- a reference that is spelled is read as its character, whatever follows
 pub reference_read : (word rest : List ℕ) (c : ℕ) → IsReference word c → reference (word ++ rest) ≡ Some (c, length word)
 unfolding reference
 reference_read word rest c ampersand = refl
@@ -142,6 +145,7 @@ numbered_only base n k (b ∷ bytes) c taken e =
       | false ↦ λ is x. more_digits base n k b bytes c taken (λ d. numbered_only base (n * base + d) (k + 1) bytes c taken) (digit_of base b) refl x
     ] refl e
 
+-- bytes that begin with a word are that word and the rest
 pub begins_split : (word bytes : List ℕ) → begins word bytes ≡ true → bytes ≡ word ++ drop (length word) bytes
 begins_split [] bytes e = refl
 begins_split (w ∷ word) [] e = absurd cc
@@ -191,6 +195,7 @@ in_hexadecimal_only bytes c taken begun e =
       is = in_hexadecimal d.digits d.shows d.ok;
     }
 
+-- bytes that are read as a reference begin with one that is spelled
 pub reference_only : (bytes : List ℕ) (c taken : ℕ) → reference bytes ≡ Some (c, taken) → BeginsWithReference bytes c taken
 unfolding reference
 reference_only bytes c taken e =

@@ -228,9 +228,11 @@ named_again text at t c rest e stop =
     let name = between_again text (at + 1) (spelled t) (c ∷ rest) after in
     rw (one_again text at 60 (spelled t ++ c ∷ rest) e, word_again (spelled t) text (at + 1) c rest g.2 g.0 g.1 after stop, name, named t) refl
 
+-- no double quote
 abbrev pub no_quote : ℕ → Bool
 no_quote b = not (eqb b 34)
 
+-- a value in double quotes, with none inside, is read to its closing quote
 pub quoted_again : (text : List ℕ) (at : ℕ) (v rest : List ℕ) → all_pass no_quote v ≡ true → drop at text ≡ 34 ∷ v ++ 34 ∷ rest → quoted_at text at ≡ Ok (at + 1 + length v)
 unfolding quoted_at
 quoted_again text at v rest ok e =
@@ -419,6 +421,7 @@ pub record IsOpened (text : List ℕ) (tag : Tag) (a : Attribute) (at : ℕ) : T
   pub named : named_at text at ≡ Ok (tag, at + 1 + length (spelled tag))
   pub rest : rest_at tag at text (at + 1 + length (spelled tag)) ≡ Ok (record { tag = tag; attribute = a; empty = false; next = at + length (start_text tag a) })
 
+-- a start tag that is written is opened at its place
 pub opened : (text : List ℕ) (tag : Tag) (a : Attribute) (at : ℕ) (rest : List ℕ) → may_have tag a ≡ true → drop at text ≡ start_text tag a ++ rest → IsOpened text tag a at
 opened text tag a at rest may e =
     let e1 : drop at text ≡ 60 ∷ spelled tag ++ (attribute_text a ++ 62 ∷ rest) = e ∙ ap (λ (x : List ℕ). 60 ∷ x) (append_assoc (spelled tag ++ attribute_text a) (62 ∷ []) rest ∙ append_assoc (spelled tag) (attribute_text a) (62 ∷ rest)) in
@@ -432,10 +435,12 @@ opened text tag a at rest may e =
       rest = rest_again text tag a at (at + 1 + length (spelled tag)) rest may c ∙ ap (λ (k : ℕ). Ok (record { tag = tag; attribute = a; empty = false; next = k })) there;
     }
 
+-- a start tag that is written is read again, with its attribute
 pub start_again : (text : List ℕ) (tag : Tag) (a : Attribute) (at : ℕ) (rest : List ℕ) → may_have tag a ≡ true → drop at text ≡ start_text tag a ++ rest → start_at text at ≡ Ok (record { tag = tag; attribute = a; empty = false; next = at + length (start_text tag a) })
 unfolding start_at
 start_again text tag a at rest may e = let o = opened text tag a at rest may e in rw o.named o.rest
 
+-- an end tag that is written is read again
 pub end_again : (text : List ℕ) (at : ℕ) (tag : Tag) (rest : List ℕ) → drop at text ≡ end_text tag ++ rest → end_at text at tag ≡ Ok (at + length (end_text tag))
 unfolding end_at
 end_again text at tag rest e =

@@ -67,12 +67,14 @@ fails e read is = by_why e.why
 
 -- ---- a text is looked over
 
+-- some characters of the whole have been read, and these are left
 abbrev pub AreLooked : Read (List ℕ) → Read (List ℕ) → Type 0
 AreLooked whole left = (out : List ℕ) × IsKept whole left out
 
 pub looks_begin : (whole : Read (List ℕ)) → AreLooked whole whole
 looks_begin whole = ([], begins_kept whole [] refl)
 
+-- one character more has been read
 pub looks_on : (whole left behind : Read (List ℕ)) (c : ℕ) → AreLooked whole left → IsTaken (Some (Ok c)) left behind → AreLooked whole behind
 looks_on whole left behind c h one = (h.0 ++ encode_utf8 c, takes_unit whole left behind c h.0 _ h.1 one refl)
 

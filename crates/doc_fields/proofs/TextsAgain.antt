@@ -164,6 +164,7 @@ run_read at words may =
     ∙ ap (λ (r : Read (List ℕ)). r >>= λ ds. Ok (encode_utf8_all ds)) (resolved_again false at (chars words) may.1)
     ∙ ap Ok (encodes-chars words may.0)
 
+-- a text that is written with escapes is read again
 pub text_again : (text : List ℕ) (at : ℕ) (words rest : List ℕ) → IsWritable words → drop at text ≡ escape words ++ 60 ∷ rest → text_at text at ≡ Ok (words, at + length (escape words))
 unfolding text_at text_end
 text_again text at words rest may e =
@@ -173,5 +174,6 @@ text_again text at words rest may e =
     let run = between_again text at (escape words) (60 ∷ rest) e in
     rw (end, test, run, run_read at words may) refl
 
+-- the escaped form of a text is UTF-8
 pub escape_valid : (words : List ℕ) → IsWritable words → IsUtf8 (escape words)
 escape_valid words may = (with_escapes words may.0).valid

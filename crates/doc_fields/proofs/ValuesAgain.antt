@@ -54,6 +54,7 @@ pub record IsWritten (n : ℕ) (ds : List ℕ) : Type 0 where
 digit_is : (d : ℕ) → d < 10 → is_digit (48 + d) ≡ true
 digit_is d lt = grind (arith, nat_tests)
 
+-- a number below 2^64 in decimal is as numbers are written
 pub decimal_written : (n : ℕ) → n < 2 ^ 64 → IsWritten n (decimal n)
 decimal_written n lt = decimal_by_steps IsWritten
     (λ n small. record { good = rw (digit_is n small) refl; value = omega arith; some = omega arith })
@@ -63,6 +64,7 @@ decimal_written n lt = decimal_by_steps IsWritten
       some = omega (arith, length-append ds ((48 + n % 10) ∷ []));
     }) n lt
 
+-- a number in decimal is read again, up to a byte that is no digit
 pub number_again : (text : List ℕ) (at n c : ℕ) (rest : List ℕ) → n < 2 ^ 64 → is_digit c ≡ false → drop at text ≡ decimal n ++ c ∷ rest → number_at text at ≡ Ok (n, at + length (decimal n))
 unfolding number_at
 number_again text at n c rest lt stop e =
@@ -73,17 +75,20 @@ number_again text at n c rest lt stop e =
 
 -- ---- words and letters
 
+-- a truth value that is written is read again
 pub bool_again : (text : List ℕ) (at : ℕ) (is : Bool) (rest : List ℕ) → drop at text ≡ bool_text is ++ rest → bool_at text at ≡ Ok (is, at + length (bool_text is))
 unfolding bool_at
 bool_again text at true rest e = rw e refl
 bool_again text at false rest e = rw e refl
 
+-- the state of a lock that is written is read again
 pub lock_again : (text : List ℕ) (at : ℕ) (state : LockState) (rest : List ℕ) → drop at text ≡ lock_word state ++ rest → lock_at text at ≡ Ok (state, at + length (lock_word state))
 unfolding lock_at
 lock_again text at Unlocked rest e = rw e refl
 lock_again text at Locked rest e = rw e refl
 lock_again text at PermLocked rest e = rw e refl
 
+-- a small letter is read again
 pub letter_again : (text : List ℕ) (at b : ℕ) (rest : List ℕ) → 97 ≤ b → b ≤ 122 → drop at text ≡ b ∷ rest → letter_at text at ≡ Ok (b, at + 1)
 unfolding letter_at
 letter_again text at b rest low high e =
@@ -126,10 +131,12 @@ civil_again m =
     let h = has_civil m in
     civil_in-shown (time_text m) h.0 true (time_text_civil m h.0 h.1) (civil-places m h.0 h.1) (civil_is m h.0 h.1) ∙ ap Some (sym (civil_of_only m h.0 h.1))
 
+-- the text of a moment has 30 bytes
 pub length_time : (m : Moment) → length (time_text m) ≡ 30
 unfolding time_text civil_text
 length_time m = refl
 
+-- the text of a moment is read again as its date and time of day
 pub time_again : (text : List ℕ) (at : ℕ) (m : Moment) (rest : List ℕ) → drop at text ≡ time_text m ++ rest → time_at text at ≡ Ok (civil_of m, at + 30)
 unfolding time_at
 time_again text at m rest e =
@@ -152,6 +159,7 @@ small_byte (suc k) n (suc i) d lt = small_byte k n i d (omega arith)
 pub uuid_is : (uuid : ℕ) → uuid < 2 ^ 128 → uuid_in (uuid_text uuid) ≡ Some uuid
 uuid_is uuid fits = uuid_in-written (uuid_text uuid) uuid (length-uuid uuid) fits (parses_hyphenated lower (to_be_bytes w128 uuid) (inl refl) refl (λ i d lt. small_byte 16 uuid i d lt))
 
+-- the text of a UUID is read again
 pub uuid_again : (text : List ℕ) (at uuid : ℕ) (rest : List ℕ) → uuid < 2 ^ 128 → drop at text ≡ uuid_text uuid ++ rest → uuid_at text at ≡ Ok (uuid, at + 36)
 unfolding uuid_at
 uuid_again text at uuid rest fits e =

@@ -16,9 +16,11 @@ use Rattle.doc_fields.specs.Space.{is_space, space_end}
 use Rattle.doc_fields.proofs.Again.{all_pass, space_again}
 use Rattle.doc_fields.proofs.ValuesAgain.{decimal_written}
 
+-- a byte below 128
 abbrev pub is_ascii : ℕ → Bool
 is_ascii b = nat_lt b 128
 
+-- one ASCII byte is UTF-8
 pub one_valid : (b : ℕ) → b < 128 → IsUtf8 (b ∷ [])
 one_valid b lt = IsUtf8-from_ascii (b ∷ []) (λ i. one i)
   where
@@ -26,6 +28,7 @@ one_valid b lt = IsUtf8-from_ascii (b ∷ []) (λ i. one i)
     one zero = lt
     one (suc i) = omega arith
 
+-- bytes that are all ASCII are UTF-8
 pub ascii_valid : (s : List ℕ) → all_pass is_ascii s ≡ true → IsUtf8 s
 ascii_valid [] e = IsUtf8-nil
 ascii_valid (b ∷ s) e =
@@ -40,6 +43,7 @@ digits_ascii (b ∷ s) e =
     let low : is_ascii b ≡ true = grind (arith, nat_tests) in
     rw low (digits_ascii s x.1)
 
+-- a number in decimal is UTF-8
 pub decimal_valid : (n : ℕ) → n < 2 ^ 64 → IsUtf8 (decimal n)
 decimal_valid n lt = ascii_valid (decimal n) (digits_ascii (decimal n) (decimal_written n lt).good)
 
@@ -47,6 +51,7 @@ places_valid : (width n : ℕ) → IsUtf8 (digits width n)
 places_valid zero n = IsUtf8-nil
 places_valid (suc width) n = IsUtf8-append (digits width (n / 10)) ((48 + n % 10) ∷ []) (places_valid width (n / 10)) (one_valid (48 + n % 10) (omega arith))
 
+-- the text of a date and time of day is UTF-8
 pub civil_valid : (c : Civil) → IsUtf8 (civil_text c)
 unfolding civil_text
 civil_valid c =
@@ -59,11 +64,13 @@ civil_valid c =
     mark : (b : ℕ) → b < 128 → IsUtf8 (b ∷ [])
     mark b lt = one_valid b lt
 
+-- the text of a UUID is UTF-8
 pub uuid_valid : (uuid : ℕ) → IsUtf8 (uuid_text uuid)
 uuid_valid uuid = IsUtf8-from_ascii (uuid_text uuid) (hyphenated_ascii lower (to_be_bytes w128 uuid) (inl refl))
 
 -- ---- first bytes
 
+-- white space is not passed where something that begins with none stands
 pub space_first : (text : List ℕ) (at : ℕ) (s rest : List ℕ) → 0 < length s → is_space (get_or s 0 0) ≡ false → drop at text ≡ s ++ rest → space_end text at ≡ at
 space_first text at [] rest some stop e = absurd (omega arith)
 space_first text at (b ∷ s) rest some stop e = space_again text at b (s ++ rest) e stop
@@ -75,12 +82,14 @@ first_digit : (s : List ℕ) → 0 < length s → all_pass is_digit s ≡ true �
 first_digit [] some e = absurd (omega arith)
 first_digit (b ∷ s) some e = digit_stops b (and_parts (is_digit b) (all_pass is_digit s) e).0
 
+-- a number in decimal does not begin with white space
 pub decimal_first : (n : ℕ) → n < 2 ^ 64 → is_space (get_or (decimal n) 0 0) ≡ false
 decimal_first n lt = let w = decimal_written n lt in first_digit (decimal n) w.some w.good
 
 place_stops : (n : ℕ) → is_space (48 + n % 10) ≡ false
 place_stops n = let lt : n % 10 < 10 = omega arith in grind (arith, nat_tests)
 
+-- the text of a moment does not begin with white space
 pub time_first : (m : Moment) → is_space (get_or (time_text m) 0 0) ≡ false
 unfolding time_text civil_text
 time_first m = place_stops ((civil_of m).year / 10 / 10 / 10)
@@ -88,6 +97,7 @@ time_first m = place_stops ((civil_of m).year / 10 / 10 / 10)
 hex_stops : (d : ℕ) → is_space (hex_digit lower d) ≡ false
 hex_stops d = grind (arith, nat_tests)
 
+-- the text of a UUID does not begin with white space
 pub uuid_first : (uuid : ℕ) → is_space (get_or (uuid_text uuid) 0 0) ≡ false
 unfolding by_index
 uuid_first uuid = hex_stops (nibble (to_be_bytes w128 uuid) 0)

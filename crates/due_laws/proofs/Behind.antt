@@ -22,6 +22,7 @@ fits_file label ip dp nodes all at bytes raws f =
 no_earlier : (block q pos : ℕ) → 4 ≤ block → block + q ≡ pos → 4 ≤ pos
 no_earlier block q pos low is = omega (arith, low, is)
 
+-- each block of a tree stands behind the labels
 pub begin_behind : TreesBeginBehindLabels
 begin_behind = record {
   mounted = λ label ip dp letters size index t all is part pos h.

@@ -51,6 +51,7 @@ some_text v =
     longer ((head ++ start_text LtfsIndex Version) ++ inner) (end_text LtfsIndex)
     (longer (head ++ start_text LtfsIndex Version) inner (longer head (start_text LtfsIndex Version) (omega arith)))
 
+-- a valid index whose text isn't too long has a text that reads as it
 pub is_text : (index : Index) → IsValid index → length (canon index) < 2 ^ 64
     → (1 ≤ length (canon index)) × IndexText (canon index) index
 is_text index valid fits =
@@ -101,9 +102,11 @@ module _ (c : Cartridge) (g : Given) (on : Bool) (st : Standing) (s : Stocked) (
         sym (tells.same made.0 made.1),
       )
 
+  -- the index that is due is valid
   pub is_valid : IsValid index
   is_valid = tells.valid
 
+  -- the index that is due tells the tree of the whole history
   pub tells_all : (v : Volume) (t : Trees) → v.facts ≡ carried g.mounted.index → g.mounted.label ≡ v.labels.ip
       → st.tree ≡ t.nth t.count
       → Tells v t c st.space.ends.ip st.space.ends.dp (record { index = index; place = t.count })
@@ -118,6 +121,7 @@ module _ (c : Cartridge) (g : Given) (on : Bool) (st : Standing) (s : Stocked) (
 
 -- ---- that it is due
 
+-- the index of a sync that may be told is due
 pub index_due : {D : Type 0} → IndexesAreDue D
 index_due p limits v on s at valid label_is held good behind can fits =
     let g = given_by limits v in

@@ -20,6 +20,7 @@ by_blocks one other g on st s alike i = record {
   below = i.below;
 }
 
+-- what is held for one tape is held for another with the same bytes in its blocks
 pub go_by_the_tape : StocksGoByTheTape
 go_by_the_tape = record {
   everywhere = λ one other g on st s same i. by_blocks one other g on st s (λ part pos byte h. same part pos byte) i;

@@ -33,6 +33,7 @@ within v on s text is = by (nat_lt (2 ^ 62) (s.newest + 1)) refl is
         not_over : (a b : ℕ) → nat_lt a b ≡ false → b ≤ a
         not_over a b e = grind (arith, nat_tests, e)
 
+-- the text of an index that is admitted has fewer than 2^64 bytes
 pub are_short : AdmittedTextsAreShort
 are_short = record {
   fits = λ v on s text limits some most is.

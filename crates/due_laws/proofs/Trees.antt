@@ -25,6 +25,7 @@ kind_of letters size (told_kinds.File bytes raws) =
     kinds.File (record { laid = laid_of letters size bytes raws; spare = 0 })
 kind_of letters size (told_kinds.Link text) = kinds.Link text
 
+-- the node that a node of an index is mounted as
 abbrev pub node_of : Letters → ℕ → ℕ → told.Node → Node
 node_of letters size at node = record {
   number = at;
@@ -42,11 +43,13 @@ is_kind letters size (told_kinds.File bytes raws) =
     (record { laid = laid_of letters size bytes raws; spare = 0 }, refl, refl)
 is_kind letters size (told_kinds.Link text) = refl
 
+-- what a node of an index is mounted as is told by it
 pub is_node : (letters : Letters) (size at : ℕ) (node : told.Node)
     → IsNodeOf letters size node (node_of letters size at node)
 is_node letters size at node =
     record { uid = refl; times = refl; readonly = refl; keys = refl; kind = is_kind letters size node.kind }
 
+-- at each place within a list something stands
 pub some_at : {X : Type 0} (xs : List X) (k : ℕ) → k < length xs → (x : X) × IsAt xs k x
 some_at [] k lt = absurd (omega (arith, lt))
 some_at (x ∷ xs) zero lt = (x, refl)
@@ -85,6 +88,7 @@ module _ (letters : Letters) (size : ℕ) (nodes : List told.Node) (t : AreTold 
       let next : suc k + 1 ≡ suc (suc k) = omega arith in
       (more.0, subst (λ n. IsBuilt letters size nodes n more.0) next more.1)
 
+-- each index that can be mounted has a tree
 pub mounts_have_trees : MountsHaveTrees
 mounts_have_trees letters size index can =
     let t = are_told index letters size can in

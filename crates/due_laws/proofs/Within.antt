@@ -115,6 +115,7 @@ module _ (label : Label) (ip dp : ℕ) where
       fit_told tell kind_is es (λ i e is. there (suc i) e is),
     )
 
+    -- the nodes that are told of a tree lie within the ends of the volume
     pub told_fits : AllByRecursion (FitsNode label ip dp) (told_nodes (label.index, label.dpart) t)
     told_fits = fit_told (told_of (label.index, label.dpart) t.name (fin.keys t.nodes)) (λ e. refl)
         (fin.entries t.nodes) (λ i e is. entry_get t.nodes i e.0 e.1 is)

@@ -9,6 +9,7 @@ abbrev pub Moved : {A : Type 0} → List (Option A) → List A → List (Option 
 Moved {A} all moved left room = (map Some moved ++ left ≡ all) × All (λ item. is_some item ≡ true) left
     × (length moved + length left ≤ room)
 
+-- one value more is moved, and there is room for those that are left
 pub one_moved : {A : Type 0} (all : List (Option A)) (moved more : List A) (left behind : List (Option A)) (o : Option A)
     (x : A) (room wider : ℕ) → Moved all moved left room → left ≡ o ∷ behind → o ≡ Some x → more ≡ moved ++ x ∷ []
     → room ≤ wider → Moved all more behind wider

@@ -264,6 +264,7 @@ count_all : (p : ℕ → Bool) (n : ℕ) → count p n ≤ n
 count_all p zero = omega arith
 count_all p (suc n) = omega (arith, cond_most (p (suc n)), count_all p n)
 
+-- no more sessions drain or wait than there are
 pub busy_all : (sessions : ℕ) (marks : List Mark) → busy sessions marks ≤ sessions
 busy_all sessions marks = count_all (λ who. is_busy (phase who marks)) sessions
 
@@ -271,6 +272,7 @@ count_none : (n : ℕ) → count (λ who. is_busy (phase who [])) n ≡ 0
 count_none zero = refl
 count_none (suc n) = omega (arith, count_none n)
 
+-- with no placement yet there is room for all that are to come
 pub new_listed : (history : List Placed) (told : List (Option Reply)) (marks : List Stored) (calls sessions h r room : ℕ)
     → history ≡ [] → told ≡ [] → marks ≡ [] → calls ≤ h → calls ≤ r → 2 * calls ≤ room
     → IsListed history told marks calls sessions h r room
@@ -287,6 +289,7 @@ new_listed history told marks calls sessions h r room no_history no_told no_mark
 hands_free : (place : ℕ) (reply : Reply) → after (waits place) (kinds.Hands place reply) ≡ idle
 hands_free place reply = ap (λ b. cond b idle (waits place)) (eq-eqb place place refl)
 
+-- there is room for the mark of a reply that is handed out
 pub hand_fits : (history : List Placed) (told : List (Option Reply)) (marks : List Stored) (calls sessions h r room who place : ℕ)
     → IsListed history told marks calls sessions h r room → phase who (map (shown told) marks) ≡ waits place
     → 1 ≤ who → who ≤ sessions → 1 ≤ room
@@ -297,6 +300,7 @@ hand_fits history told marks calls sessions h r room who place is waiting low hi
     (ap (λ p. is_busy (after p kind)) waiting ∙ ap is_busy (hands_free place (or_none None))) in
     omega (arith, less, is.room)
 
+-- with the mark of a reply handed out there is room for all marks to come
 pub hand_listed : (history : List Placed) (told : List (Option Reply)) (marks now : List Stored) (calls sessions h r room left who place : ℕ)
     → IsListed history told marks calls sessions h r room → phase who (map (shown told) marks) ≡ waits place
     → 1 ≤ who → who ≤ sessions → IsThere told (stored.Hands place)
@@ -309,6 +313,7 @@ hand_listed history told marks now calls sessions h r room left who place is wai
     (ap (λ p. is_busy (after p (kind_of told (stored.Hands place)))) waiting
     ∙ ap is_busy (hands_free place (or_none (there (slice_get told place))))) enough)
 
+-- there is room for the mark of a session that rests
 pub rest_fits : (history : List Placed) (told : List (Option Reply)) (marks : List Stored) (calls sessions h r room who : ℕ)
     → IsListed history told marks calls sessions h r room → phase who (map (shown told) marks) ≡ draining
     → 1 ≤ who → who ≤ sessions → 1 ≤ room
@@ -318,6 +323,7 @@ rest_fits history told marks calls sessions h r room who is drains low high =
     (ap (λ p. is_busy (after p kinds.Rests)) drains) in
     omega (arith, less, is.room)
 
+-- with the mark of a session that rests there is room for all marks to come
 pub rest_listed : (history : List Placed) (told : List (Option Reply)) (marks now : List Stored) (calls sessions h r room left who : ℕ)
     → IsListed history told marks calls sessions h r room → phase who (map (shown told) marks) ≡ draining
     → 1 ≤ who → who ≤ sessions
@@ -329,6 +335,7 @@ rest_listed history told marks now calls sessions h r room left who is drains lo
     (record { low = low; high = high; handed = omega arith }) (ap is_busy drains)
     (ap (λ p. is_busy (after p kinds.Rests)) drains) enough)
 
+-- with the mark of a drain that begins there is room for all marks to come
 pub begin_listed : (history : List Placed) (told : List (Option Reply)) (marks now : List Stored) (calls sessions h r room left who : ℕ)
     → IsListed history told marks calls sessions h r room → 1 ≤ who → who ≤ sessions
     → now ≡ marks ++ record { who = who; what = stored.Begins } ∷ []
@@ -339,6 +346,7 @@ begin_listed history told marks now calls sessions h r room left who is low high
     (listed_more history told marks calls sessions h r room left (record { who = who; what = stored.Begins }) is
     (record { low = low; high = high; handed = omega arith }) (omega (arith, fits, is.room)) enough)
 
+-- with one more placement there is room for all that are to come
 pub place_listed : (history longer : List Placed) (told more : List (Option Reply)) (marks now : List Stored)
     (calls sessions h r more_h more_r room left here : ℕ) (placed : Placed)
     → IsListed history told marks calls sessions h r room → length history < calls → 1 ≤ placed.who → placed.who ≤ sessions
@@ -349,6 +357,7 @@ pub place_listed : (history longer : List Placed) (told more : List (Option Repl
 place_listed history longer told more marks now calls sessions h r more_h more_r room left here placed is few low high longer_is more_is now_is here_is hs rs enough =
     rw (longer_is, more_is, now_is, here_is) (listed_placed history told marks calls sessions h r more_h more_r room left placed is few low high hs rs enough)
 
+-- a placement adds its own mark to those that are shown
 pub place_marks : (sessions here : ℕ) (history : List Placed) (told more : List (Option Reply)) (marks now : List Stored) (shown_before : List Mark) (who place : ℕ)
     → AllByRecursion (IsOfSession sessions told) marks → more ≡ told ++ None ∷ []
     → now ≡ marks ++ record { who = who; what = stored.Places here } ∷ [] → map (shown told) marks ≡ shown_before → here ≡ place
@@ -357,6 +366,7 @@ place_marks sessions here history told more marks now shown_before who place rig
     rw (more_is, now_is, sym before, sym here_is) (map-append (shown (told ++ None ∷ [])) marks (record { who = who; what = stored.Places here } ∷ [])
     ∙ ap (λ ms. ms ++ mark who (kinds.Places here) ∷ []) (shown_stays sessions told (told ++ None ∷ []) marks (keeps_more told None) right))
 
+-- a reply that comes to its place changes no mark that is shown
 pub answer_marks : (sessions place : ℕ) (told : List (Option Reply)) (marks : List Stored) (shown_before : List Mark) (reply : Reply)
     → AllByRecursion (IsOfSession sessions told) marks → slice_get told place ≡ Some None → map (shown told) marks ≡ shown_before
     → map (shown (slice_set told place (Some reply))) marks ≡ shown_before

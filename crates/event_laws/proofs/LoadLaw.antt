@@ -107,6 +107,7 @@ lowered st (Worked place None) h free =
 lowered st (Worked place (Some counts)) h free =
     waiter_goes st.head st.arrived st.requests st.done st.ended st.group st.syncs st.drains (taken st place (left_of _ _ h)).not_calm
 
+-- each step of the head lowers the load
 pub steps_lower_the_load : StepsLowerTheLoad
 steps_lower_the_load = lowered
 
@@ -126,6 +127,7 @@ synced_one : (st : State) (ticket : ℕ) → load (after st (Syncs ticket)) ≡ 
 synced_one st ticket =
     omega (arith, length-append (st.ended ++ with_flushes st.group) [], length-append st.ended (with_flushes st.group), flushes_long st.group, length-append st.ended (map put_at st.group), length-map st.group put_at, length_push st.syncs (record { ticket = ticket; due = st.done + length (st.ended ++ with_flushes st.group) }))
 
+-- how a trail changes the load: by what comes in and what its steps take away
 pub trails_change_the_load : TrailsChangeTheLoad
 trails_change_the_load st [] h = omega arith
 trails_change_the_load st (e ∷ later) h =
@@ -150,6 +152,7 @@ some_stand : {X : Type 0} (p : X → Bool) (xs : List X) → list_any p xs ≡ t
 some_stand p [] h = absurd (cc h)
 some_stand p (x ∷ xs) h = omega arith
 
+-- where a request or a sync waits, the load isn't zero
 pub waits_are_load : WaitsAreLoad
 waits_are_load st ticket h = by (list_any (λ (r : Request). r.ticket == ticket) st.requests) refl h
   where

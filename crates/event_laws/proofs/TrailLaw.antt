@@ -7,10 +7,12 @@ use Rattle.session_script.specs.declared.logs.Event.{Event}
 use Rattle.event_laws.specs.Waiting.{State, start}
 use Rattle.event_laws.specs.Trail.{EachIsAllowed, IsTrail, after, allows, is_trail_from}
 
+-- of two truths together, the first is true
 pub first_of : (a b : Bool) → (a && b) ≡ true → a ≡ true
 first_of true b e = refl
 first_of false b e = cc
 
+-- of two truths together, the second is true
 pub second_of : (a b : Bool) → (a && b) ≡ true → b ≡ true
 second_of true b e = e
 second_of false b e = cc
@@ -24,5 +26,6 @@ trail_from : (st : State) (events : List Event) → ((k : ℕ) (e : Event) → s
 trail_from st [] h = refl
 trail_from st (x ∷ xs) h = and_from (allows st x) (is_trail_from (after st x) xs) (h 0 x refl) (trail_from (after st x) xs (λ k e is. h (suc k) e is))
 
+-- a list is a trail just if each event may come after those before it
 pub trails_allow_each : (events : List Event) → IsTrail events ↔ EachIsAllowed events
 trails_allow_each events = (each_from start events, trail_from start events)

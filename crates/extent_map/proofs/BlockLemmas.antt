@@ -37,6 +37,7 @@ module _ (size : ℕ) (part : Part) (pos : ℕ) where
       let place : (e.byte + n) / size + ((e.byte + n) % size + h.byte) / size ≡ (e.byte + (n + h.byte)) / size = div_on (e.byte + n) h.byte size some ∙ ap (λ x. x / size) sum in
       record { byte = n + h.byte; within = omega (arith, h.within); on = h.on; here = omega (arith, place, h.here) }
 
+  -- a block with a byte of a cut extent has one of the whole extent
   pub in_cut : (at : ℕ) (es : List Extent) → Some_in (cut at es) → Some_in es
   in_cut at [] h = h
   in_cut at (e ∷ es) h = ⊎_elim (λ a. inl (in_front (at - e.offset) e (of_some (front_of (at - e.offset) e) a))) (λ b. inr (in_cut at es b)) (in_joined (before at e) (cut at es) h)
@@ -46,6 +47,7 @@ module _ (size : ℕ) (part : Part) (pos : ℕ) where
   in_left at (e ∷ es) some h =
       ⊎_elim (λ a. inl (in_rest (at - e.offset) e some (of_some (rest_of size (at - e.offset) e) a))) (λ b. inr (in_left at es some b)) (in_joined (past size at e) (left_from size at es) h)
 
+-- overlays add only the new extent's blocks, and new lengths add none
 pub no_other_blocks : NoOtherBlocks
 no_other_blocks = record {
   overlays = λ f new part pos laid h.
@@ -78,6 +80,7 @@ same_maps : (f g : ℕ → Cell) (xs : List ℕ) → ((i : ℕ) → f i ≡ g i)
 same_maps f g [] same = refl
 same_maps f g (x ∷ xs) same = ap (λ c. c ∷ map f xs) (same x) ∙ ap (λ cs. g x ∷ cs) (same_maps f g xs same)
 
+-- tapes alike in the blocks of a file have the same file
 pub blocks_make_the_file : BlocksMakeTheFile
 blocks_make_the_file one other f alike =
     same_maps (cell_at one f.block_size f.extents) (cell_at other f.block_size f.extents) (range_with_len 0 f.length) (λ i. same_cell_at one other f.block_size f.extents i alike)

@@ -16,6 +16,7 @@ has_byte c part pos byte value (Some Mark) block there = absurd (let bad : None 
 has_byte c part pos byte value (Some Torn) block there = absurd (let bad : None ≡ Some value = there in cc)
 has_byte c part pos byte value None block there = absurd (let bad : None ≡ Some value = there in cc)
 
+-- what stands on a cartridge is the bytes of its blocks
 pub blocks_have_the_bytes : BlocksHaveTheBytes
 blocks_have_the_bytes = record {
   found = λ c part pos byte value there. has_byte c part pos byte value (slice_get (items_of part c) pos) refl there;

@@ -11,6 +11,7 @@ use Rattle.extent_map.proofs.LaidLemmas.{laid_le}
 
 -- ---- division
 
+-- in which block a byte lies, counted on from the block of an earlier byte
 pub div_on : (a m s : ℕ) → 1 ≤ s → a / s + (a % s + m) / s ≡ (a + m) / s
 div_on a m s some =
     let whole : a / s * s + a % s ≡ a = div-add-mod' a s in
@@ -39,17 +40,21 @@ module _ (tape : Tape) (size : ℕ) where
   cell_or [] i d = d
   cell_or (e ∷ es) i d = cond (covers e i) (cell_of tape size e (i - e.offset)) (cell_or es i d)
 
+  -- the byte of a file is that of an extent that has it, else zero
   pub cell_at_or : (es : List Extent) (i : ℕ) → cell_at tape size es i ≡ cell_or es i (Some 0)
   cell_at_or [] i = refl
   cell_at_or (e ∷ es) i = ap (λ d. cond (covers e i) (cell_of tape size e (i - e.offset)) d) (cell_at_or es i)
 
+  -- the byte in two lists of extents is that of the first, else that of the second
   pub cell_or_append : (xs ys : List Extent) (i : ℕ) (d : Cell) → cell_or (xs ++ ys) i d ≡ cell_or xs i (cell_or ys i d)
   cell_or_append [] ys i d = refl
   cell_or_append (e ∷ xs) ys i d = ap (λ d. cond (covers e i) (cell_of tape size e (i - e.offset)) d) (cell_or_append xs ys i d)
 
+  -- a byte within the first extent is that extent's
   pub here : (e : Extent) (es : List Extent) (i : ℕ) (d : Cell) → e.offset ≤ i → i < e.offset + e.count → cell_or (e ∷ es) i d ≡ cell_of tape size e (i - e.offset)
   here e es i d from to = ap (λ b. cond b (cell_of tape size e (i - e.offset)) (cell_or es i d)) (has e i from to)
 
+  -- a byte outside of the first extent is one of the others'
   pub elsewhere : (e : Extent) (es : List Extent) (i : ℕ) (d : Cell) → (i < e.offset) ⊎ (e.offset + e.count ≤ i) → cell_or (e ∷ es) i d ≡ cell_or es i d
   elsewhere e es i d off = ap (λ b. cond b (cell_of tape size e (i - e.offset)) (cell_or es i d)) (has_not e i off)
 
@@ -108,6 +113,7 @@ module _ (tape : Tape) (size : ℕ) where
       (cases_lt i (e.offset + e.count)))
       (cases_lt i e.offset)
 
+  -- a byte at or past a cut is the same in what is left of the extents
   pub left_after : (n : ℕ) (es : List Extent) (i : ℕ) (d : Cell) → 1 ≤ size → n ≤ i → cell_or (left_from size n es) i d ≡ cell_or es i d
   left_after n [] i d some above = refl
   left_after n (e ∷ es) i d some above =
@@ -116,6 +122,7 @@ module _ (tape : Tape) (size : ℕ) where
       ∙ rest_cell n e i (cell_or (left_from size n es) i d) some above
       ∙ ap (λ x. cond (covers e i) (cell_of tape size e (i - e.offset)) x) (left_after n es i d some above)
 
+  -- what is left past a cut has no byte before it
   pub left_before : (n : ℕ) (es : List Extent) (i : ℕ) (d : Cell) → i < n → cell_or (left_from size n es) i d ≡ d
   left_before n [] i d below = refl
   left_before n (e ∷ es) i d below =

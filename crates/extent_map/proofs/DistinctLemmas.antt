@@ -117,6 +117,7 @@ has_last p y (d ∷ places) = ap (λ t. same_place p d || t) (has_last p y place
 pub none_met : (met : BTreeSet (Bool × ℕ)) → met.keys ≡ [] → AreMet met []
 none_met met none p = ap (list_any (is_at (key_cmp (key_of p)))) none
 
+-- a place that was put in is among those that were met
 pub met_more : (met next : BTreeSet (Bool × ℕ)) (places : List Place) (y : Place) → AreMet met places → Updates key_cmp met next (key_of y) true → AreMet next (places ++ y ∷ [])
 met_more met next places y are new p = by (same_place p y) refl
   where
@@ -138,6 +139,7 @@ met_more met next places y are new p = by (same_place p y) refl
         other true is = let wrong : true ≡ false = sym (ap (same_place p) (alike y p is) ∙ same_itself p) ∙ e in cc
         other false is = is
 
+-- a place that could be added to those that were met was not among them
 pub fresh_place : (met : BTreeSet (Bool × ℕ)) (places : List Place) (y : Place) (key : Bool × ℕ) (added : Bool) → AreMet met places → key ≡ key_of y → added ≡ not (contains key_cmp met key) → added ≡ true → has_place y places ≡ false
 fresh_place met places y key added are is told new = sym (are y) ∙ ap (contains key_cmp met) (sym is) ∙ by (contains key_cmp met key) (sym told ∙ new)
   where
@@ -145,6 +147,7 @@ fresh_place met places y key added are is told new = sym (are y) ∙ ap (contain
     by true e = cc
     by false e = refl
 
+-- a place that could not be added to those that were met was among them
 pub old_place : (met : BTreeSet (Bool × ℕ)) (places : List Place) (y : Place) (key : Bool × ℕ) (added : Bool) → AreMet met places → key ≡ key_of y → added ≡ not (contains key_cmp met key) → added ≡ false → has_place y places ≡ true
 old_place met places y key added are is told new = sym (are y) ∙ ap (contains key_cmp met) (sym is) ∙ by (contains key_cmp met key) (sym told ∙ new)
   where
@@ -185,6 +188,7 @@ all_zeros tape (piece ∷ pieces) =
     joined (gathered_piece tape (λ place. false) piece) (gathered tape (λ place. false) pieces) (replicate (bytes_in piece) 0) (replicate (size_of pieces) 0) (first_zeros tape piece) (all_zeros tape pieces)
     ∙ ap (λ l. Some l) (sym (zeros_joined (bytes_in piece) (size_of pieces)))
 
+-- gathering begins with zeros, and ends with the bytes once all places are read
 pub replies_gather : RepliesGather
 replies_gather = record {
   begins = all_zeros;

@@ -40,36 +40,45 @@ rest_whole size e h =
 
 -- ---- one extent
 
+-- an extent that ends before an offset lies before it as a whole
 pub before_whole : (at : ℕ) (e : Extent) → 1 ≤ e.count → e.offset + e.count ≤ at → before at e ≡ e ∷ []
 before_whole at e some ends = ap unless_empty (front_whole (at - e.offset) e (omega arith)) ∙ unless_some e some
 
+-- nothing of an extent that begins at or past an offset lies before it
 pub before_none : (at : ℕ) (e : Extent) → at ≤ e.offset → before at e ≡ []
 before_none at e past = unless_none (front_of (at - e.offset) e) (omega arith)
 
+-- the front of an extent that begins before an offset lies before it
 pub before_part : (at : ℕ) (e : Extent) → 1 ≤ e.count → e.offset < at → before at e ≡ front_of (at - e.offset) e ∷ []
 before_part at e some begins = unless_some (front_of (at - e.offset) e) (omega arith)
 
+-- nothing of an extent that ends by an offset lies past it
 pub past_none : (size at : ℕ) (e : Extent) → e.offset + e.count ≤ at → past size at e ≡ []
 past_none size at e ends = unless_none (rest_of size (at - e.offset) e) (omega arith)
 
+-- an extent that begins at or past an offset lies past it as a whole
 pub past_whole : (size at : ℕ) (e : Extent) → 1 ≤ e.count → e.byte < size → at ≤ e.offset → past size at e ≡ e ∷ []
 past_whole size at e some byte begins =
     let none : at - e.offset ≡ 0 = omega arith in
     ap (λ n. unless_empty (rest_of size n e)) none ∙ ap unless_empty (rest_whole size e byte) ∙ unless_some e some
 
+-- the rest of an extent that ends past an offset lies past it
 pub past_part : (size at : ℕ) (e : Extent) → 1 ≤ e.count → at < e.offset + e.count → past size at e ≡ rest_of size (at - e.offset) e ∷ []
 past_part size at e some goes_on = unless_some (rest_of size (at - e.offset) e) (omega arith)
 
 -- ---- laid extents
 
+-- extents that are laid end no earlier than they begin
 pub laid_le : (size low high : ℕ) (es : List Extent) → AreLaid size low high es → low ≤ high
 laid_le size low high [] h = h
 laid_le size low high (e ∷ es) h = omega (arith, h.0, laid_le size (e.offset + e.count) high es h.4)
 
+-- extents that are laid from a byte on are so from an earlier one
 pub laid_lower : (size less low high : ℕ) (es : List Extent) → less ≤ low → AreLaid size low high es → AreLaid size less high es
 laid_lower size less low high [] le h = omega (arith, h)
 laid_lower size less low high (e ∷ es) le h = (omega (arith, h.0), h.1, h.2, h.3, h.4)
 
+-- extents that are laid up to a byte are so up to a later one
 pub laid_raise : (size low high more : ℕ) (es : List Extent) → high ≤ more → AreLaid size low high es → AreLaid size low more es
 laid_raise size low high more [] le h = omega (arith, h)
 laid_raise size low high more (e ∷ es) le h = (h.0, h.1, h.2, h.3, laid_raise size (e.offset + e.count) high more es le h.4)
@@ -80,11 +89,13 @@ laid_append size low mid high (e ∷ xs) ys h k = (h.0, h.1, h.2, h.3, laid_appe
 
 -- ---- lists that are cut
 
+-- extents that begin at or past a cut leave nothing before it
 pub cut_past : (size low high : ℕ) (es : List Extent) (at : ℕ) → AreLaid size low high es → at ≤ low → cut at es ≡ []
 cut_past size low high [] at h le = refl
 cut_past size low high (e ∷ es) at h le =
     ap (λ l. l ++ cut at es) (before_none at e (omega (arith, h.0))) ∙ cut_past size (e.offset + e.count) high es at h.4 (omega (arith, h.0))
 
+-- extents that begin at or past a cut are all left behind it
 pub left_same : (size low high : ℕ) (es : List Extent) (at : ℕ) → AreLaid size low high es → at ≤ low → left_from size at es ≡ es
 left_same size low high [] at h le = refl
 left_same size low high (e ∷ es) at h le =
@@ -99,6 +110,7 @@ front_laid size low high e es at h begins next = ⊎_elim
     subst (λ x. AreLaid size x at (cut at es)) same (next ends))
     (cases_lt at (e.offset + e.count))
 
+-- extents that are laid are still so when they are cut
 pub cut_laid : (size low high : ℕ) (es : List Extent) (at : ℕ) → AreLaid size low high es → low ≤ at → AreLaid size low at (cut at es)
 cut_laid size low high [] at h le = le
 cut_laid size low high (e ∷ es) at h le = ⊎_elim
@@ -115,6 +127,7 @@ div_few byte n size h =
     let few : (byte + n) / size < n + 1 = div_below (byte + n) size (n + 1) (omega arith) (omega (arith, times)) in
     omega arith
 
+-- what is left of laid extents past a cut is laid from there on
 pub left_laid : (size low high : ℕ) (es : List Extent) (at : ℕ) → 1 ≤ size → AreLaid size low high es → at ≤ high → AreLaid size at high (left_from size at es)
 left_laid size low high [] at some h le = le
 left_laid size low high (e ∷ es) at some h le = ⊎_elim
@@ -133,6 +146,7 @@ left_laid size low high (e ∷ es) at some h le = ⊎_elim
 
 -- ---- the two calls keep the invariant
 
+-- a file with a new extent put over it is laid
 pub overlaid_laid : (f : Laid) (new : Extent) → IsLaid f → 1 ≤ new.count → new.offset + new.count ≤ longest_file → new.byte < f.block_size → new.block ≤ 2 ^ 62 → IsLaid (overlaid f new)
 overlaid_laid f new h some fits byte block =
     let end = new.offset + new.count in
@@ -150,6 +164,7 @@ overlaid_laid f new h some fits byte block =
           );
     }
 
+-- a file with a new length is laid
 pub resized_laid : (f : Laid) (n : ℕ) → IsLaid f → n ≤ longest_file → IsLaid (resized f n)
 resized_laid f n h fits = record {
   some_block = h.some_block;
@@ -157,9 +172,11 @@ resized_laid f n h fits = record {
   are_laid = cut_laid f.block_size 0 f.length f.extents n h.are_laid (omega arith);
 }
 
+-- a file of this block size, length and extents
 abbrev pub laid_as : ℕ → ℕ → List Extent → Laid
 laid_as size length es = record { block_size = size; length = length; extents = es }
 
+-- the extents and length that a write leaves are those of the overlay
 pub overlaid_is : (size length n : ℕ) (es after : List Extent) (new : Extent) → after ≡ cut new.offset es ++ new ∷ left_from size (new.offset + new.count) es → n ≡ max length (new.offset + new.count)
     → laid_as size n after ≡ overlaid (laid_as size length es) new
 overlaid_is size length n es after new is long =

@@ -52,6 +52,7 @@ module _ (tape : Tape) (f : Laid) (laid : IsLaid f) where
         ∙ left_after tape size end f.extents i (Some 0) laid.some_block high
         ∙ sym (cell_at_or tape size f.extents i)
 
+    -- a write lays its new extent over the file
     pub writes : file_cells tape (overlaid f new) ≡ plain.written (file_cells tape f) new.offset (cells_of tape size new)
     writes =
         let news : List Cell = cells_of tape size new in
@@ -67,14 +68,17 @@ module _ (tape : Tape) (f : Laid) (laid : IsLaid f) where
   shorter : (n i : ℕ) → i < n → cell_at tape size (cut n f.extents) i ≡ cell_at tape size f.extents i
   shorter n i low = cell_at_or tape size (cut n f.extents) i ∙ cut_before tape size n f.extents i (Some 0) low ∙ sym (cell_at_or tape size f.extents i)
 
+  -- a truncation gives the file its new length
   pub truncates : (n : ℕ) → file_cells tape (resized f n) ≡ plain.resized (file_cells tape f) n
   truncates n =
       let old : ℕ → Cell = cell_at tape size f.extents in
       cells_resized old (cell_at tape size (cut n f.extents)) f.length n (λ i low. shorter n i low) beyond ∙ padded_is old f.length n
 
+-- an overlay changes a file's bytes as a write does
 pub overlays_write : OverlaysWrite
 overlays_write tape f new laid = writes tape f laid new
 
+-- a new length changes a file's bytes as a truncation does
 pub lengths_truncate : LengthsTruncate
 lengths_truncate tape f length laid = truncates tape f laid length
 
@@ -90,6 +94,7 @@ zeros_between g from to n are le within =
 none_past : (tape : Tape) (f : Laid) (short i : ℕ) → short ≤ i → cell_or tape f.block_size (cut short f.extents) i (Some 0) ≡ Some 0
 none_past tape f short i past = cut_after tape f.block_size short f.extents i (Some 0) past
 
+-- bytes that were cut off never come back
 pub old_bytes_stay_away : OldBytesStayAway
 old_bytes_stay_away = record {
   longer = λ tape f short long le.

@@ -197,6 +197,7 @@ gaps_within size low end (e ∷ es) h =
     (All-append (IsInOneBlock size) (zeros (e.offset - low)) (pieces_of size e) (zeros_within size (e.offset - low)) (pieces_within size e h.1 h.2))
     (gaps_within size (e.offset + e.count) end es h.4)
 
+-- the pieces planned for a range read its bytes, each within one block
 pub plans_read : PlansRead
 plans_read = record {
   read = plan_read;

@@ -85,12 +85,14 @@ places_rise es from end j k d le p q within = ⊎_elim
     (λ right. right)
     (cases_lt k j)
 
+-- the place that a search finds for a cut is the first extent that reaches past it
 pub found : (size low high : ℕ) (es ds : List Extent) (at k : ℕ) → ds ≡ es → AreLaid size low high es → (IsPartitionedBy (λ (e : Extent). leb e.count (at - e.offset)) ds → IsPlace at ds k) → IsPlace at es k
 found size low high es ds at k same h parts =
     subst (λ l. IsPlace at l k) same (parts (subst (λ l. IsPartitionedBy (λ (e : Extent). leb e.count (at - e.offset)) l) (sym same) (partitioned size low high es h at)))
 
 -- ---- what the steps of the code leave
 
+-- where a cut falls within an extent, the rest of it begins what is left
 pub begun : (size low high : ℕ) (es : List Extent) (at k : ℕ) (x : Extent) → AreLaid size low high es → IsPlace at es k → k < length es → x ≡ get_or es k x
     → set es k (rest_of size (at - x.offset) x) ≡ take k es ++ left_from size at es
 begun size low high [] at k x h p lt is = absurd (omega arith)
@@ -103,6 +105,7 @@ begun size low high (e ∷ es) at (suc k) x h p lt is =
     ap (λ l. e ∷ l) (begun size (e.offset + e.count) high es at k x h.4 (next_place at e es k p) (omega arith) is)
     ∙ ap (λ l. e ∷ (take k es ++ (l ++ left_from size at es))) (sym (past_none size at e (omega (arith, h.1))))
 
+-- past all extents nothing is left to cut
 pub all_done : (size low high : ℕ) (es : List Extent) (at k : ℕ) → AreLaid size low high es → IsPlace at es k → length es ≤ k → es ≡ take k es ++ left_from size at es
 all_done size low high [] at zero h p le = refl
 all_done size low high [] at (suc k) h p le = refl
@@ -112,16 +115,19 @@ all_done size low high (e ∷ es) at (suc k) h p le =
     ap (λ l. e ∷ l) (all_done size (e.offset + e.count) high es at k h.4 (next_place at e es k p) (omega arith))
     ∙ ap (λ l. e ∷ (take k es ++ (l ++ left_from size at es))) (sym (past_none size at e (omega (arith, h.1))))
 
+-- replacing the last of the extents kept leaves those before it
 pub kept : (old : List Extent) (k : ℕ) (e : Extent) → k < length old → set (take (k + 1) old) k e ≡ take k old ++ e ∷ []
 kept old k e lt =
     let long : length (take (k + 1) old) ≡ k + 1 = length-take-le (k + 1) old (omega arith) in
     let none : drop (suc k) (take (k + 1) old) ≡ [] = drop_all (suc k) (take (k + 1) old) (omega arith) in
     set_split (take (k + 1) old) k e (omega arith) ∙ ap (λ l. l ++ e ∷ drop (suc k) (take (k + 1) old)) (take-take k (k + 1) old (omega arith)) ∙ ap (λ l. take k old ++ e ∷ l) none
 
+-- of a new extent that was put in twice, the first is replaced by another
 pub put_first : (xs ys : List Extent) (e new : Extent) (k : ℕ) → length xs ≡ k → set (xs ++ (new ∷ new ∷ []) ++ ys) k e ≡ xs ++ e ∷ [] ++ new ∷ ys
 put_first xs ys e new k long =
     ap (λ l. set l k e) (append_assoc xs (new ∷ new ∷ []) ys) ∙ set_at xs new (new ∷ ys) e k long ∙ sym (append_assoc xs (e ∷ []) (new ∷ ys))
 
+-- the extents that a write builds are those before its range, the new one, and those past it
 pub put_list : (size low high : ℕ) (es : List Extent) (from end first last : ℕ) (front : List Extent) (new : Extent) (after begun : List Extent)
     → AreLaid size low high es → IsPlace from es first → first ≤ last → last ≤ length es
     → begun ≡ take last es ++ left_from size end es → front ≡ flat_map (before from) (take 1 (drop first es))
@@ -139,6 +145,7 @@ put_list size low high es from end first last front new after begun h p order wi
 pub read_at : (size low high : ℕ) (es : List Extent) (k : ℕ) (x : Extent) → AreLaid size low high es → k < length es → x ≡ get_or es k x → IsAt size low high x
 read_at size low high es k x h lt is = subst (IsAt size low high) (sym is) (laid_at size low high es h k x lt)
 
+-- the extents that a truncation builds are those cut at the new length
 pub cut_list : (size low high : ℕ) (es : List Extent) (at k : ℕ) (front after : List Extent) → AreLaid size low high es → IsPlace at es k → front ≡ flat_map (before at) (take 1 (drop k es))
     → after ≡ take k es ++ front → after ≡ cut at es
 cut_list size low high es at k front after h p fronts is = is ∙ ap (λ l. take k es ++ l) fronts ∙ sym (cut_at size low high es at k h p)
@@ -160,6 +167,7 @@ partitioned_begun size low high (e ∷ es) h at (suc i) (suc j) d le lt does = p
 abbrev pub IsEnd : ℕ → List Extent → ℕ → Type 0
 IsEnd at es k = IsPartitionPoint (λ (e : Extent). ltb e.offset at ≡ true) (λ (e : Extent). ltb e.offset at ≡ false) es k
 
+-- the place found for the end of a range is behind the last extent that begins before it
 pub found_end : (size low high : ℕ) (es ds : List Extent) (at k : ℕ) → ds ≡ es → AreLaid size low high es → (IsPartitionedBy (λ (e : Extent). ltb e.offset at) ds → IsEnd at ds k) → IsEnd at es k
 found_end size low high es ds at k same h parts =
     subst (λ l. IsEnd at l k) same (parts (subst (λ l. IsPartitionedBy (λ (e : Extent). ltb e.offset at) l) (sym same) (partitioned_begun size low high es h at)))
@@ -167,6 +175,7 @@ found_end size low high es ds at k same h parts =
 not_begun : (at : ℕ) (e : Extent) → ltb e.offset at ≡ false → at ≤ e.offset
 not_begun at e h = grind (arith, nat_tests)
 
+-- the end of a range falls no earlier than its beginning
 pub end_after : (size low high : ℕ) (es : List Extent) (from end j k : ℕ) (d : Extent) → AreLaid size low high es → from ≤ end → IsPlace from es j → IsEnd end es k → j ≤ length es → j ≤ k
 end_after size low high es from end j k d h le p q within = ⊎_elim
     (λ wrong.
@@ -206,6 +215,7 @@ laid_drop size low high [] (suc k) h = h
 laid_drop size low high (e ∷ es) zero h = h
 laid_drop size low high (e ∷ es) (suc k) h = laid_drop size low high es k (laid_lower size low (e.offset + e.count) high es (omega (arith, h.0)) h.4)
 
+-- only the extents between its two places reach into a range
 pub touched : (size low high : ℕ) (es : List Extent) (from end j k : ℕ) → AreLaid size low high es → IsPlace from es j → IsEnd end es k
     → left_from size from (cut end es) ≡ left_from size from (cut end (take (k - j) (drop j es)))
 touched size low high es from end j k h p q =
@@ -216,11 +226,13 @@ touched size low high es from end j k h p q =
     let same : get_or (drop j es) i d ≡ get_or es (j + i) d = get_or-drop j es i d in
     subst (λ (x : Extent). end ≤ x.offset) (sym same) (not_begun end (get_or es (j + i) d) (q.1 (j + i) d (omega arith) there))))
 
+-- extents out of a laid file begin within a block
 pub bytes_within : (size low high : ℕ) (es ds : List Extent) (j n : ℕ) → AreLaid size low high es → ds ≡ take n (drop j es) → All (λ (e : Extent). e.byte < size) ds
 bytes_within size low high es ds j n h is =
     All-same (λ (e : Extent). e.byte < size) ds (take n (drop j es)) is
     (All-take (λ (e : Extent). e.byte < size) n (drop j es) (All-drop (λ (e : Extent). e.byte < size) j es (λ k d lt. (laid_at size low high es h k d lt).byte)))
 
+-- extents out of a laid file stand far before the greatest position
 pub blocks_far : (size low high : ℕ) (es ds : List Extent) (j n : ℕ) → AreLaid size low high es → ds ≡ take n (drop j es) → All (λ (e : Extent). e.block + e.count ≤ 2 ^ 62 + longest_file) ds
 blocks_far size low high es ds j n h is =
     All-same (λ (e : Extent). e.block + e.count ≤ 2 ^ 62 + longest_file) ds (take n (drop j es)) is

@@ -28,6 +28,7 @@ pub record Cut (xs ys : List Cell) (bytes : List ℕ) : Type 0 where
   pub rest_is : bytes_of ys ≡ Some rest
   pub is : bytes ≡ front ++ rest
 
+-- bytes of two pieces are the bytes of the one and then of the other
 pub cut : (xs ys : List Cell) (bytes : List ℕ) → bytes_of (xs ++ ys) ≡ Some bytes → Cut xs ys bytes
 cut [] ys bytes is = record { front = []; rest = bytes; front_is = refl; rest_is = is; is = refl }
 cut (None ∷ xs) ys bytes is = cc
@@ -40,6 +41,7 @@ cut (Some b ∷ xs) ys bytes is = by (bytes_of (xs ++ ys)) refl is (cut xs ys)
         let whole : b ∷ more ≡ bytes = same_Some (b ∷ more) bytes (sym (ap (option_map (λ bs. b ∷ bs)) e) ∙ f) in
         record { front = b ∷ c.front; rest = c.rest; front_is = ap (option_map (λ bs. b ∷ bs)) c.front_is; rest_is = c.rest_is; is = sym whole ∙ ap (λ l. b ∷ l) c.is }
 
+-- pieces without a lost byte have their bytes one behind the other
 pub joined : (xs ys : List Cell) (cs bs : List ℕ) → bytes_of xs ≡ Some cs → bytes_of ys ≡ Some bs → bytes_of (xs ++ ys) ≡ Some (cs ++ bs)
 joined [] ys cs bs x y = y ∙ ap (λ l. Some (l ++ bs)) (same_Some [] cs x)
 joined (None ∷ xs) ys cs bs x y = cc
@@ -65,6 +67,7 @@ lost_rest [] ys lost = lost
 lost_rest (None ∷ xs) ys lost = refl
 lost_rest (Some b ∷ xs) ys lost = ap (option_map (λ bs. b ∷ bs)) (lost_rest xs ys lost)
 
+-- there are as many bytes as cells
 pub long_bytes : (xs : List Cell) (bs : List ℕ) → bytes_of xs ≡ Some bs → length bs ≡ length xs
 long_bytes [] bs is = ap length (sym (same_Some [] bs is))
 long_bytes (None ∷ xs) bs is = cc
@@ -79,6 +82,7 @@ long_zeros : (n : ℕ) → length {A = Cell} (replicate n (Some 0)) ≡ n
 long_zeros zero = refl
 long_zeros (suc n) = ap suc (long_zeros n)
 
+-- a piece has as many cells as it counts
 pub long_piece : (tape : Tape) (read : Places) (piece : Piece) → length (gathered_piece tape read piece) ≡ bytes_in piece
 long_piece tape read (Zeros count) = long_zeros count
 long_piece tape read (Stored place byte count) = by (read place)
@@ -124,19 +128,23 @@ pub record Halfway (tape : Tape) (read : Places) (place : Place) (pieces : List 
   pub front_is : bytes_of (gathered tape (with_place read place) (take i pieces)) ≡ Some front
   pub rest_is : bytes_of (gathered tape read (drop i pieces)) ≡ Some rest
 
+-- before the first piece all bytes are as they were gathered
 pub begins : (tape : Tape) (read : Places) (place : Place) (pieces : List Piece) (bytes : List ℕ) → IsGathered tape read pieces bytes → Halfway tape read place pieces 0 0 bytes
 begins tape read place pieces bytes is = record { front = []; rest = bytes; is = refl; long = refl; front_is = refl; rest_is = is }
 
+-- a piece begins what is left, and ends what has been done
 pub dropped : (pieces : List Piece) (i : ℕ) (p : Piece) → i < length pieces → p ≡ get_or pieces i p → (drop i pieces ≡ p ∷ drop (suc i) pieces) × (take (suc i) pieces ≡ take i pieces ++ p ∷ [])
 dropped [] i p lt is = absurd (omega (arith, lt))
 dropped (q ∷ pieces) zero p lt is = (ap (λ z. z ∷ pieces) (sym is), ap (λ z. z ∷ []) (sym is))
 dropped (q ∷ pieces) (suc i) p lt is = let more = dropped pieces i p (omega (arith, lt)) is in (more.0, ap (λ l. q ∷ l) more.1)
 
+-- one piece more counts its bytes to the whole
 pub sizes : (pieces : List Piece) (i : ℕ) (p : Piece) → i < length pieces → p ≡ get_or pieces i p → (size_of (take (suc i) pieces) ≡ size_of (take i pieces) + bytes_in p) × (size_of (take i pieces) + bytes_in p ≤ size_of pieces)
 sizes [] i p lt is = absurd (omega (arith, lt))
 sizes (q ∷ pieces) zero p lt is = (omega (arith, ap bytes_in is), omega (arith, ap bytes_in is))
 sizes (q ∷ pieces) (suc i) p lt is = let more = sizes pieces i p (omega (arith, lt)) is in (omega (arith, more.0), omega (arith, more.1))
 
+-- the piece at a place of a plan is the same, whatever is read past the plan's end
 pub at_item : (pieces : List Piece) (i : ℕ) (d : Piece) → i < length pieces → get_or pieces i d ≡ get_or pieces i (get_or pieces i d)
 at_item [] i d lt = absurd (omega (arith, lt))
 at_item (q ∷ pieces) zero d lt = refl
@@ -163,9 +171,11 @@ module _ (tape : Tape) (read : Places) (place : Place) (pieces : List Piece) (i 
       ap (λ l. take n (drop at l)) h.is ∙ ap (take n) (dropped_front h.front h.rest at (sym h.long)) ∙ ap (take n) this_cut.is
       ∙ taken_front this_cut.front this_cut.rest n (e ∙ sym front_long)
 
+  -- the part of the bytes that is a piece's is gathered for that piece
   pub part_gathered : (n : ℕ) → n ≡ bytes_in p → IsGatheredPiece tape read p (take n (drop at bytes))
   part_gathered n e = this_cut.front_is ∙ ap (λ l. Some l) (sym (part_is n e))
 
+  -- a piece that was gathered takes its part among the bytes
   pub steps : (new next : List ℕ) (end : ℕ) → end ≡ at + bytes_in p → length new ≡ bytes_in p → IsGatheredPiece tape (with_place read place) p new → next ≡ take at bytes ++ new ++ drop end bytes
       → Halfway tape read place pieces (i + 1) end next
   steps new next end ends long is next_is = record {
@@ -205,6 +215,7 @@ ends tape read place pieces i at bytes done h =
     let none : h.rest ≡ [] = sym (same_Some [] h.rest (ap (λ l. bytes_of (gathered tape read l)) (sym (drop_all i pieces done)) ∙ h.rest_is)) in
     ap (λ l. bytes_of (gathered tape (with_place read place) l)) (sym (take_all i pieces done)) ∙ h.front_is ∙ ap (λ l. Some l) (sym (append-nil h.front) ∙ ap (λ l. h.front ++ l) (sym none) ∙ sym h.is)
 
+-- a part that is not empty has a byte or more
 pub some_part : (part : List ℕ) → (length part ≡ 0 → ⊥) → 1 ≤ length part
 some_part [] some = absurd (some refl)
 some_part (b ∷ part) some = omega arith
@@ -213,12 +224,14 @@ some_part (b ∷ part) some = omega arith
 
 module _ (tape : Tape) (read : Places) (place : Place) (pieces : List Piece) (i at count : ℕ) (bytes next : List ℕ) (p : Piece) (lt : i < length pieces) (p_is : p ≡ get_or pieces i p)
     (h : Halfway tape read place pieces i at bytes) (count_is : count ≡ bytes_in p) (whole : Bool) where
+  -- a piece of which no byte is lost is put in its part
   pub put_steps : whole ≡ true → (IsGatheredPiece tape read p (take count (drop at bytes)) → IsPutAt tape read place p at count bytes next whole) → Halfway tape read place pieces (i + 1) (at + count) next
   put_steps is put =
       let done = put (part_gathered tape read place pieces i at bytes p lt p_is h count count_is) in
       steps tape read place pieces i at bytes p lt p_is h done.part next (at + count) (ap (λ n. at + n) count_is) (done.long ∙ count_is)
       (subst (IsFilledPiece tape read place p done.part) is done.filled) done.is
 
+  -- a piece of which a byte is lost makes the whole lost
   pub put_loses : whole ≡ false → (IsGatheredPiece tape read p (take count (drop at bytes)) → IsPutAt tape read place p at count bytes next whole) → bytes_of (flat_map (read_piece tape) pieces) ≡ None
   put_loses is put =
       let done = put (part_gathered tape read place pieces i at bytes p lt p_is h count count_is) in
@@ -249,6 +262,7 @@ read_long tape (piece ∷ pieces) =
     by (Zeros count) = long_zeros count
     by (Stored place byte count) = length-map-range_with_len (λ i. tape place.part place.pos (byte + i)) 0 count
 
+-- the planned pieces of a range have as many bytes as the range
 pub range_long : (f : Laid) (offset count : ℕ) (pieces : List Piece) → offset + count ≤ f.length → ((tape : Tape) → flat_map (read_piece tape) pieces ≡ range_of (file_cells tape f) offset count) → size_of pieces ≡ count
 range_long f offset count pieces within reads =
     let cells : List Cell = file_cells whole f in

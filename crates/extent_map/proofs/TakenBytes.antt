@@ -67,8 +67,10 @@ part_there block byte count n within same =
 
 -- ---- what was appended
 
+-- bytes that are there are appended
 pub taken : (old new more : List ℕ) (bytes : Option (List ℕ)) → bytes ≡ Some more → new ≡ old ++ more → IsTaken old new true bytes
 taken old new more bytes there is = subst (λ b. IsTaken old new true b) (sym there) (refl, is)
 
+-- where a byte is lost nothing is appended
 pub left : (old : List ℕ) (bytes : Option (List ℕ)) → bytes ≡ None → IsTaken old old false bytes
 left old bytes lost = subst (λ b. IsTaken old old false b) (sym lost) (refl, sym (append-nil old))

@@ -54,6 +54,7 @@ module _ (size from end : ℕ) (order : from ≤ end) where
       ∙ ap (λ l. l ++ filter high (taken_out size from end es)) (all_kept high (rest_of size (end - e.offset) e) (λ some. upper (e.offset + (end - e.offset)) from (omega arith)))
       ∙ ap (λ l. past size end e ++ l) (highs es)
 
+-- an overlay takes its range out of each extent and puts the new one among them
 pub overlays_take_out : OverlaysTakeOut
 overlays_take_out f new =
     let end : ℕ = new.offset + new.count in

@@ -12,6 +12,7 @@ use Rattle.cartridge_meaning.specs.Carried.{Carried}
 use Rattle.crash_laws.specs.May.{IsLeftBy}
 use Rattle.fenced_drive.specs.Laws.{AllowsThePromise, ForbidsErasing}
 
+-- each image that the owner allows is sound, and stands for a tree of some history
 pub allows_the_promise : AllowsThePromise
 allows_the_promise script moment facts tree image left = (
   left.sound,

@@ -320,5 +320,6 @@ module _ (letters : Letters) (size : ℕ) (index : Index) (can : CanMount index 
       by i (Some e) is = let found = told_same i e is in
           get_map tell (fin.entries m) i (Some e) is ∙ ap (λ n. Some n) found.2 ∙ sym (get_map (node_in_order letters size) nodes i (Some found.0) found.1)
 
+-- an index whose nodes stand by their names is told again by its tree
 pub indexes_are_told_again : IndexesAreToldAgain
 indexes_are_told_again letters size index t can ascend tree = told_again letters size index can ascend t tree

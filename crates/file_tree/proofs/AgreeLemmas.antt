@@ -95,6 +95,7 @@ pub record IsToldFile (letters : Letters) (kind : HeldKind) (bytes : ℕ) (raws 
   pub long : room.laid.length ≡ bytes
   pub extents : map (raw_of letters) room.laid.extents ≡ raws
 
+-- a file that is told is told with its length and its extents in order
 pub told_file : (letters : Letters) (kind : HeldKind) (bytes : ℕ) (raws : List RawExtent) → told_kind_of letters kind ≡ told_kinds.File bytes raws → IsToldFile letters kind bytes raws
 told_file letters kinds.Dir bytes raws e = cc
 told_file letters (kinds.Link text) bytes raws e = cc
@@ -178,6 +179,7 @@ module _ (letters : Letters) (volume : List ℕ) (m : Nodes) (size highest : ℕ
         told_apart letters g.0.laid.block_size g.0.laid.length g.0.laid.extents g.1.lies.are_laid one two offset (subst (λ rs. ShareOffset rs one two offset) (sym g.3) s);
   }
 
+-- the nodes that a good tree tells agree with one another
 pub told_agree : (letters : Letters) (t : FileTree) → IsGood t → (index : Index) → index.nodes ≡ told_nodes letters t → index.highest ≡ t.highest → Agrees index
 told_agree letters t good index nodes_are highest_is = record {
   uids = subst (λ h. AreUids h index.nodes) (sym highest_is) (subst (AreUids t.highest) (sym nodes_are) (uids_agree letters t.name t.nodes t.block_size t.highest (good.valid whole) good.files));

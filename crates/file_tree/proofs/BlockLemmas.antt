@@ -52,9 +52,11 @@ module _ (one other : Tape) (t : FileTree) (alike : AreAlikeIn (TreeStandsIn t) 
   same_plain : plain_of one t ≡ plain_of other t
   same_plain = ap (λ nodes. record { highest = t.highest; nodes = nodes }) (same_nodes (plain_nodes one t.nodes) (plain_nodes other t.nodes) same_at)
 
+-- tapes alike in the blocks of a tree give the same plain tree
 pub blocks_make_the_tree : BlocksMakeTheTree
 blocks_make_the_tree one other t alike = same_plain one other t alike
 
+-- a tree below its ends doesn't see what changes behind them
 pub ends_hold : EndsHold
 ends_hold = record {
   unseen = λ ends one other t below agree. same_plain one other t (λ part pos byte h. agree part pos byte (below part pos h));
@@ -75,6 +77,7 @@ one_laid m number f g differ a b =
     one_room : (r s : Room) → ◌≡◌ {A = HeldKind} (kinds.File r) (kinds.File s) → r ≡ s
     one_room r s e = cc
 
+-- where each file lies as it did, no block is added
 pub all_lie_adds : (t next : FileTree) → AllLie t next → AddsNoBlock t next
 all_lie_adds t next lie part pos h = record { number = h.number; laid = h.laid; file = (lie h.number h.laid).1 h.file; block = h.block }
 

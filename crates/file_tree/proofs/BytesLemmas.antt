@@ -80,6 +80,7 @@ write_done p path offset (b ∷ bytes) at some = refl
 not_read_write : (p : Path) (n : ℕ) (bytes : List ℕ) (path : Path) (offset count : ℕ) → asks.Write p n bytes ≡ asks.Read path offset count → ⊥
 not_read_write p n bytes path offset count e = cc
 
+-- an overlay of blocks that hold the bytes is the plain tree's write
 pub writes_are_writes : WritesAreWrites
 writes_are_writes = record {
   blocks = blocks_hold;

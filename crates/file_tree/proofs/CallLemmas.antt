@@ -32,6 +32,7 @@ file_there t path file stands free = by node.0.kind refl
     by (kinds.Link text) e = let wrong : Some refusals.IsLink ≡ None = sym (file_of_kind whole t.nodes path node.0 (plain_kinds.Link text) node.1 (ap (plain_kind_of whole) e)) ∙ free in cc
     by (kinds.File room) e = (room, record { path = path; node = node.0; there = node.1; is = node.2; file = e })
 
+-- where each file lies as it did, a file is still one
 pub still_file : (a b : FileTree) (file : ℕ) → ((room : Room) × HasExtents a.nodes file room) → AllLie a b → (room : Room) × HasExtents b.nodes file room
 still_file a b file was lie =
     let h = was.1 in
@@ -49,6 +50,7 @@ long_free p path n free =
     within : (n : ℕ) → nat_lt longest_file n ≡ false → n ≤ longest_file
     within n e = grind (arith, nat_tests)
 
+-- a file with memory for two extents more can take one that fits it
 pub can_write : (t : FileTree) (file : ℕ) (room : Room) (new : Extent) → HasExtents t.nodes file room → IsFileOf t.block_size room.laid → ((room : Room) → HasExtents t.nodes file room → 2 ≤ room.spare)
     → 1 ≤ new.count → new.offset + new.count ≤ longest_file → new.byte ≡ 0 → new.block + new.count ≤ 2 ^ 62 → CanWrite t file new
 can_write t file room new h good space some fits byte last = record {

@@ -2,6 +2,7 @@
 use Rattle.std.proofs.Common.{refl}
 use Rattle.file_tree.specs.Carried.{FactsAreCarried}
 
+-- an index that tells a tree carries its facts on, and loses none
 pub facts_are_carried : FactsAreCarried
 facts_are_carried = record {
   tells = λ letters heading carried t. record { nodes = refl; highest = refl };

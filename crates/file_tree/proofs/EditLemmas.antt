@@ -32,9 +32,11 @@ module _ (m : Nodes) (p : List (List ℕ)) (node : Node) (free : fin.get m p ≡
   other : (q : List (List ℕ)) (n : Node) → fin.get m q ≡ Some n → fin.get (fin.insert m p node) q ≡ Some n
   other q n is = get_other m p q node (λ e. unlike (fin.get m p) n free (ap (fin.get m) (sym e) ∙ is)) ∙ is
 
+  -- a number stands where it stood when a node is put in elsewhere
   pub put_numbers : (q : List (List ℕ)) (n : ℕ) → number_at m q ≡ Some n → number_at (fin.insert m p node) q ≡ Some n
   put_numbers q n is = let a = node_at m q n is in ap (option_map (λ (n : Node). n.number)) (other q a.0 a.1) ∙ ap (λ k. Some k) a.2
 
+  -- a file lies as it did when a node is put in elsewhere
   pub put_lies : (n : ℕ) (f : Laid) → HasLaid m n f → HasLaid (fin.insert m p node) n f
   put_lies n f h = record { path = h.path; node = h.node; there = other h.path h.node h.there; is = h.is; room = h.room; file = h.file; lies = h.lies }
 
@@ -68,12 +70,14 @@ insert_files size m p node all this q n room is kind = ⊎_elim
     (is_or_not p q)
 
 module _ (m next : Nodes) (n : ℕ) (P : Node → Node → Type 0) (c : IsChangedAt m next n P) where
+  -- a change of a node leaves all numbers where they stand
   pub change_numbers : (q : List (List ℕ)) → number_at next q ≡ number_at m q
   change_numbers q = ap (λ k. number_at k q) c.now ∙ ⊎_elim
       (λ (e : q ≡ c.path). ap (number_at (fin.insert m c.path c.new)) e ∙ number_is (fin.insert m c.path c.new) c.path c.new (get_here m c.path c.new) ∙ ap (λ k. Some k) c.kept ∙ sym (number_is m c.path c.old c.there) ∙ ap (number_at m) (sym e))
       (λ apart. ap (option_map (λ (n : Node). n.number)) (get_other m c.path q c.new apart))
       (is_or_not c.path q)
 
+  -- a change of a node is the change of it in the plain tree
   pub change_plain : (tape : Tape) (g : plain_node.Node → plain_node.Node) → plain_node_of tape c.new ≡ g (plain_node_of tape c.old) → plain_nodes tape next ≡ plain.changed_at g c.path (plain_nodes tape m)
   change_plain tape g is =
       ap (plain_nodes tape) c.now ∙ plain_insert tape m c.path c.new ∙ ap (fin.insert (plain_nodes tape m) c.path) is
@@ -133,20 +137,25 @@ module _ (m next : Nodes) (n : ℕ) (P : Node → Node → Type 0) (c : IsChange
         (is_or_not c.path q));
   }
 
+  -- numbers still differ after a change of a node
   pub change_differ : NumbersDiffer m → NumbersDiffer next
   change_differ differ p q k is also = differ p q k (sym (change_numbers p) ∙ is) (sym (change_numbers q) ∙ also)
 
+  -- files are still the volume's after a change, if the changed one is
   pub change_files : (size : ℕ) → AreFilesOf size m → ((room : Room) → c.new.kind ≡ kinds.File room → IsFileOf size room.laid) → AreFilesOf size next
   change_files size all this = subst (λ l. AreFilesOf size l) (sym c.now) (insert_files size m c.path c.new all this)
 
+  -- files are still the volume's after a change that leaves what the node is
   pub change_files_same : (size : ℕ) → c.new.kind ≡ c.old.kind → AreFilesOf size m → AreFilesOf size next
   change_files_same size same all = change_files size all (λ room is. all c.path c.old room c.there (sym same ∙ is))
 
 -- both ways
 module _ (m next : Nodes) (n : ℕ) (P : Node → Node → Type 0) (c : IsChangedAt m next n P) where
+  -- the other files lie as they did after a change of one
   pub change_others_both : (k : ℕ) (f : Laid) → k ≢ n → HasLaid m k f ↔ HasLaid next k f
   change_others_both k f apart = (change_others m next n P c k f apart, change_others next m n (λ a b. P b a) (change_back m next n P c) k f apart)
 
+  -- all files lie as they did after a change that leaves what the node is
   pub change_lies_both : c.new.kind ≡ c.old.kind → (k : ℕ) (f : Laid) → HasLaid m k f ↔ HasLaid next k f
   unfolding change_back
   change_lies_both same k f = (change_lies m next n P c same k f, change_lies next m n (λ a b. P b a) (change_back m next n P c) (sym same) k f)
@@ -169,9 +178,11 @@ module _ (m : Nodes) (p : Path) where
       (λ apart. sym (gone_other m p q apart) ∙ is)
       (is_or_not p q)
 
+  -- a file that is there after a removal was there before
   pub remove_back : (n : ℕ) (f : Laid) → HasLaid (fin.remove m p) n f → HasLaid m n f
   remove_back n f h = record { path = h.path; node = h.node; there = was_there h.path h.node h.there; is = h.is; room = h.room; file = h.file; lies = h.lies }
 
+  -- numbers still differ after a removal
   pub remove_differ : NumbersDiffer m → NumbersDiffer (fin.remove m p)
   remove_differ differ q r k is also = differ q r k (number_was q is) (number_was r also)
     where
@@ -180,18 +191,21 @@ module _ (m : Nodes) (p : Path) where
 
 -- a move
 module _ (m : Nodes) (from to : List (List ℕ)) (free : (x : List (List ℕ)) → is_at_or_below to x ≡ true → fin.get m x ≡ None) where
+  -- files are still the volume's after a move
   pub move_files : (size : ℕ) → AreFilesOf size m → AreFilesOf size (moved from to m)
   move_files size all q n room is kind = ⊎_elim
       (λ (here : (r : List (List ℕ)) × (q ≡ to ++ r) × (fin.get m (from ++ r) ≡ Some n)). all (from ++ here.0) n room here.2 kind)
       (λ (was : (is_at_or_below to q ≡ false) × (is_at_or_below from q ≡ false) × (fin.get m q ≡ Some n)). all q n room was.2 kind)
       (from_where m from to free q n is)
 
+  -- a node stands at the path that it moves to
   pub node_moves : (q : List (List ℕ)) (n : Node) → fin.get m q ≡ Some n → fin.get (moved from to m) (moved_path from to q) ≡ Some n
   node_moves q n is = elim (is_at_or_below from q) as (λ b. is_at_or_below from q ≡ b → fin.get (moved from to m) (cond b (to ++ drop (length from) q) q) ≡ Some n) [
     | true ↦ λ below. come m from to free (drop (length from) q) ∙ ap (fin.get m) (sym (below_split from q below)) ∙ is
     | false ↦ λ other. stay m from to free q (not_true (is_at_or_below to q) (λ e. unlike (fin.get m q) n (free q e) is)) other ∙ is
   ] refl
 
+  -- a number stands at the path that it moves to
   pub number_moves : (q : List (List ℕ)) (n : ℕ) → number_at m q ≡ Some n → number_at (moved from to m) (moved_path from to q) ≡ Some n
   number_moves q n is = let node = node_at m q n is in number_is (moved from to m) (moved_path from to q) node.0 (node_moves q node.0 node.1) ∙ ap (λ k. Some k) node.2
 
@@ -202,9 +216,11 @@ module _ (m : Nodes) (from to : List (List ℕ)) (free : (x : List (List ℕ)) �
       (λ (was : (is_at_or_below to q ≡ false) × (is_at_or_below from q ≡ false) × (fin.get m q ≡ Some n)). (q, was.2))
       (from_where m from to free q n is)
 
+  -- a file that is there after a move was there before
   pub move_back : (n : ℕ) (f : Laid) → HasLaid (moved from to m) n f → HasLaid m n f
   move_back n f h = let was = node_back h.path h.node h.there in record { path = was.0; node = h.node; there = was.1; is = h.is; room = h.room; file = h.file; lies = h.lies }
 
+  -- numbers still differ after a move
   pub move_differ : NumbersDiffer m → NumbersDiffer (moved from to m)
   move_differ differ p q k is also =
       let a = node_at (moved from to m) p k is in

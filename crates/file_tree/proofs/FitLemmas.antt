@@ -37,6 +37,7 @@ no_fault name false false false true dot rest e = cc
 no_fault name false false false false true rest e = cc
 no_fault name false false false false false rest e = (refl, refl, refl, refl, refl)
 
+-- a UTF-8 name without a fault may be a node's in an index
 pub fit_name : (name : Name) → IsUtf8 name → name_fault name ≡ None → IsNodeName name
 fit_name name utf8 none =
     let is = no_fault name (eqb (length name) 0) (ltb longest_name (length (chars name))) (has_byte 47 name) (has_byte 0 name) (is_dot name) _ none in
@@ -52,6 +53,7 @@ fit_name name utf8 none =
     some : eqb (length name) 0 ≡ false → 1 ≤ length name
     some e = grind (arith, nat_tests)
 
+-- a path without a bad name ends with a name that has no fault
 pub not_bad : (front : Path) (name : Name) → bad_name (front ++ name ∷ []) ≡ None → name_fault name ≡ None
 not_bad front name free = by (name_fault name) refl (sym opened ∙ free)
   where
@@ -64,6 +66,7 @@ not_bad front name free = by (name_fault name) refl (sym opened ∙ free)
 
 -- ---- changes
 
+-- a fit node that is put in keeps all nodes fit
 pub fit_insert : (m : Nodes) (p : Path) (node : Node) → AreFit m → IsFit p node → AreFit (fin.insert m p node)
 fit_insert m p node all this q n is = ⊎_elim
     (λ (e : q ≡ p).
@@ -72,6 +75,7 @@ fit_insert m p node all this q n is = ⊎_elim
     (λ apart. all q n (sym (get_other m p q node apart) ∙ is))
     (is_or_not p q)
 
+-- a change that leaves the link's text and the attributes keeps all nodes fit
 pub fit_change : (m next : Nodes) (n : ℕ) (P : Node → Node → Type 0) (c : IsChangedAt m next n P) → AreFit m → ((text : List ℕ) → c.new.kind ≡ kinds.Link text → c.old.kind ≡ kinds.Link text) → c.new.keys ≡ c.old.keys → AreFit next
 fit_change m next n P c all same keys = subst AreFit (sym c.now) (fit_insert m c.path c.new all (record {
   named = (all c.path c.old c.there).named;
@@ -79,9 +83,11 @@ fit_change m next n P c all same keys = subst AreFit (sym c.now) (fit_insert m c
   keys = λ key value is. (all c.path c.old c.there).keys key value (ap (λ (k : KeyRoom). fin.get k.map key) (sym keys) ∙ is);
 }))
 
+-- a change that leaves what the node is and its attributes keeps all nodes fit
 pub fit_same : (m next : Nodes) (n : ℕ) (P : Node → Node → Type 0) (c : IsChangedAt m next n P) → c.new.kind ≡ c.old.kind → c.new.keys ≡ c.old.keys → AreFit m → AreFit next
 fit_same m next n P c same keys all = fit_change m next n P c all (λ text is. sym same ∙ is) keys
 
+-- a removal keeps all nodes fit
 pub fit_remove : (m : Nodes) (p : Path) → AreFit m → AreFit (fin.remove m p)
 fit_remove m p all q n is = all q n (was_there m p q n is)
 

@@ -40,6 +40,7 @@ until_held k at n z is = ⊎_elim
     (λ (high : k ≤ n). absurd (none_not (until k at n) z (outside k at n high) is))
     (cases_lt n k)
 
+-- what is not something that is kept is nothing
 pub not_there : (at : Held) (n : ℕ) → is_some (at n) ≡ false → at n ≡ None
 not_there at n none = by (at n) refl none
   where
@@ -73,6 +74,7 @@ pub record AreSpelled (spots : List (Option Spot)) (names : Tries) (k : ℕ) : T
   pub numbers : length names.owned.items ≡ length spots
 
 module _ (spots : List (Option Spot)) where
+  -- before the first number nothing comes under a name
   pub spell_first : (names : Tries) → AreTries names (λ n. None) → length spots ≤ length names.roots.items → length names.owned.items ≡ length spots
       → AreSpelled spots names 1
   spell_first names w dirs numbers = record {
@@ -82,6 +84,7 @@ module _ (spots : List (Option Spot)) where
   }
 
   module _ (names : Tries) (k : ℕ) (g : AreSpelled spots names k) where
+    -- a number at which nothing is kept is passed
     pub spell_none : held spots k ≡ None → AreSpelled spots names (k + 1)
     spell_none none = record {
       named = named_same names (keys_of (until k (held spots))) (keys_of (until (k + 1) (held spots))) g.named (no_more_keys k (held spots) none);
@@ -89,10 +92,12 @@ module _ (spots : List (Option Spot)) where
       numbers = g.numbers;
     }
 
+    -- once all numbers are passed, all nodes come under their names
     pub spelled : length spots ≤ k → AreNamed names (held spots)
     spelled all = named_same names (keys_of (until k (held spots))) (keys_of (held spots)) g.named (all_keys spots k all)
 
     module _ (z : Spot) (other : k ≢ 0) (is : held spots k ≡ Some z) where
+      -- the node at the next number may come under its name
       pub spell_can : KeysDiffer (held spots) → k < length spots → z.parent < length spots
           → CanName names spots (until k (held spots)) (until (k + 1) (held spots)) k
       spell_can differ within below = record {
@@ -112,6 +117,7 @@ module _ (spots : List (Option Spot)) where
             none_not (until k (held spots) j) h.1 (ap (until k (held spots)) one ∙ free_now k (held spots)) h.2;
       }
 
+      -- a node that has come under its name is passed
       pub spell_some : (new : Tries) → AreNamed new (until (k + 1) (held spots)) → length new.roots.items ≡ length names.roots.items
           → length new.owned.items ≡ length names.owned.items → AreSpelled spots new (k + 1)
       spell_some new named dirs numbers = record { named = named; dirs = omega (arith, g.dirs, dirs); numbers = numbers ∙ g.numbers }

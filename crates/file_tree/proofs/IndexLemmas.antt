@@ -347,6 +347,7 @@ same_plain tape t other same =
     ∙ ap (λ nodes. record { highest = t.highest; nodes = nodes }) (same_nodes (plain_nodes tape other.nodes) (plain_nodes tape t.nodes) (λ p.
     plain_get tape other.nodes p ∙ sym (option_plain tape (fin.get other.nodes p)) ∙ ap (option_map (plain_node_of tape)) (same.nodes p) ∙ option_plain tape (fin.get t.nodes p) ∙ sym (plain_get tape t.nodes p)))
 
+-- an index that tells a tree is valid, can be mounted, and is mounted as that tree
 pub indexes_come_back : IndexesComeBack
 indexes_come_back = record {
   valid = λ letters t index good are tells volume. told_valid letters t good index are tells volume;

@@ -20,6 +20,7 @@ use Rattle.file_tree.proofs.ToldLemmas.{above_now}
 use Rattle.file_tree.proofs.MemberLemmas.{in_front, in_rest, in_either}
 use Rattle.file_tree.proofs.KeyLemmas.{key_at, of_key, changed_named}
 
+-- where something is kept, it is some node under its name
 pub is_there : (at : Held) (n : ℕ) → IsSome (at n) → (z : Spot) × (at n ≡ Some z)
 is_there at n some = by (at n) refl
   where
@@ -31,6 +32,7 @@ is_there at n some = by (at n) refl
 abbrev pub without : Held → ℕ → Held
 without at n m = cond (eqb m n) None (at m)
 
+-- taking out what is kept at a number leaves it empty, and all others as they were
 pub taken_out : (at : Held) (n : ℕ) → IsKept at (without at n) n None
 taken_out at n = record {
   here = let same : eqb n n ≡ true = grind (arith, nat_tests) in ap (λ b. cond b None (at n)) same;
@@ -39,10 +41,12 @@ taken_out at n = record {
 
 -- ---- empty places
 
+-- the empty places are still empty where nothing came to them
 pub empty_more : (at next : Held) (bound more : ℕ) (ns : List ℕ) → bound ≤ more → ((n : ℕ) → IsIn n ns → at n ≡ None → next n ≡ None) → AreEmpty at bound ns → AreEmpty next more ns
 empty_more at next bound more [] le same all = tt
 empty_more at next bound more (n ∷ ns) le same all = (omega (arith, all.0, le), same n (inl refl) all.1, all.2, empty_more at next bound more ns le (λ m here. same m (inr here)) all.3)
 
+-- the last of the empty places is empty, and no other of them is the same
 pub empty_last : (at : Held) (bound : ℕ) (ns : List ℕ) (n : ℕ) → AreEmpty at bound (ns ++ n ∷ []) → (n < bound) × (at n ≡ None) × (IsIn n ns → ⊥) × AreEmpty at bound ns
 empty_last at bound [] n all = (all.0, all.1, λ none. none, tt)
 empty_last at bound (m ∷ ns) n all =
@@ -69,6 +73,7 @@ all_none at bound (m ∷ ns) all n (inr more) = all_none at bound ns all.3 n mor
 
 -- ---- all that is kept beside the places
 
+-- a number at a path other than the root's is that of a node
 pub node_there : (spots : List (Option Spot)) (m : Nodes) → IsShown (held spots) m → (p : Path) (x : Name) (n : ℕ) → number_at m (p ++ x ∷ []) ≡ Some n → IsNode (held spots) n
 node_there spots m s p x n is =
     let node = node_at m (p ++ x ∷ []) n is in
@@ -96,6 +101,7 @@ keys_differ spots m s a b key a_is b_is =
     parent_there : (n : ℕ) (z : Spot) → held spots n ≡ Some z → (p : Path) × (number_at m p ≡ Some z.parent)
     parent_there n z is = let found = stands (held spots) m s n z is in (parent_of found.0, above_now (held spots) m s n z is found.0 (number_is m found.0 z.node found.1 ∙ ap (λ k. Some k) found.2))
 
+-- a change of a node in its place leaves names and empty places as they were
 pub changed_indexed : (P : Node → Node → Type 0) (spots next : List (Option Spot)) (names : Tries) (free : List ℕ) (free_room n : ℕ)
     → IsIndexed spots names free free_room → IsChangedIn spots next n P → IsIndexed next names free free_room
 changed_indexed P spots next names free free_room n i c = record {

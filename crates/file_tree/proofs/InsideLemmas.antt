@@ -7,5 +7,6 @@ use Rattle.file_tree.specs.Tree.{Nodes, FileTree}
 abbrev pub with_nodes : Inside → Nodes → ℕ → FileTree
 with_nodes i nodes spare = record { highest = i.highest; name = i.volume; block_size = i.block_size; nodes = nodes; spare = spare }
 
+-- the tree that these fields are
 abbrev pub tree_of : Inside → FileTree
 tree_of i = with_nodes i i.places.nodes i.places.spare

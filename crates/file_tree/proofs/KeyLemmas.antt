@@ -12,16 +12,19 @@ use Rattle.file_tree.specs.Beside.{Key, key_in, keys_of, AreNamed}
 use Rattle.file_tree.specs.Places.{IsChangedIn}
 use Rattle.file_tree.specs.Seen.{Held, held, IsKept}
 
+-- the key of a number other than the root's is that of what is kept there
 pub key_at : (at : Held) (n : ℕ) (o : Option Spot) → n ≢ 0 → at n ≡ o → keys_of at n ≡ option_map key_in o
 key_at at n o other is =
     let fails : eqb n 0 ≡ false = grind (arith, nat_tests, other) in
     ap (λ b. cond b None (option_map key_in (at n))) fails ∙ ap (option_map key_in) is
 
+-- the root has no key
 pub no_root_key : (at : Held) (n : ℕ) → n ≡ 0 → keys_of at n ≡ None
 no_root_key at n zero_is =
     let holds : eqb n 0 ≡ true = grind (arith, nat_tests, zero_is) in
     ap (λ b. cond b None (option_map key_in (at n))) holds
 
+-- where the same is kept, the key is the same
 pub key_same : (at next : Held) (n : ℕ) → next n ≡ at n → keys_of next n ≡ keys_of at n
 key_same at next n same = ap (λ s. cond (eqb n 0) None (option_map key_in s)) same
 
@@ -36,6 +39,7 @@ of_key at n key is = let k = kept (at n) refl in (other, k.0, k.1, k.2)
     kept None e = let wrong : None ≡ Some key = sym (key_at at n None other e) ∙ is in cc
     kept (Some z) e = (z, e, some_same (key_in z) key (sym (key_at at n (Some z) other e) ∙ is))
 
+-- a change of what is kept at one number changes the key of that one
 pub keys_kept : (at next : Held) (n : ℕ) (o : Option Spot) → n ≢ 0 → IsKept at next n o
     → IsKeyed (keys_of at) (keys_of next) n (option_map key_in o)
 keys_kept at next n o other kept = record {

@@ -51,6 +51,7 @@ module _ (t : FileTree) (good : IsGood t) (number : ℕ) (at : Moment) (can : Ca
   named : (u : List (List ℕ)) × (x : List ℕ) × (can.path ≡ u ++ x ∷ [])
   named = by_name can.path leave.named
 
+  -- a node that may be removed may be taken out
   pub can_take : CanTake t.nodes number
   can_take = record {
     front = named.0;
@@ -65,6 +66,7 @@ module _ (t : FileTree) (good : IsGood t) (number : ℕ) (at : Moment) (can : Ca
       ap (λ m. number_at m named.0) is
       ∙ ap (option_map (λ (n : Node). n.number)) (gone_other t.nodes can.path named.0 (λ e. absurd (omega (arith, ap length (e ∙ named.2), longer named.0 named.1)))) ∙ stands
 
+  -- the directory of a removed node is still there
   pub unlink_there : (dir : ℕ) (middle : Nodes) → ((p : List (List ℕ)) (x : List ℕ) → number_at t.nodes (p ++ x ∷ []) ≡ Some number → number_at t.nodes p ≡ Some dir)
       → ((p : List (List ℕ)) → number_at t.nodes p ≡ Some number → middle ≡ fin.remove t.nodes p) → IsThere middle dir
   unlink_there dir middle up taken = (named.0, dir_stays dir middle (up named.0 named.1 (ap (number_at t.nodes) (sym named.2) ∙ can.stands)) (taken can.path can.stands))
@@ -78,6 +80,7 @@ module _ (t : FileTree) (good : IsGood t) (number : ℕ) (at : Moment) (can : Ca
     dir_middle : number_at middle named.0 ≡ Some dir
     dir_middle = dir_stays dir middle (up named.0 named.1 (ap (number_at t.nodes) (sym named.2) ∙ can.stands)) middle_is
 
+    -- a removal leaves what the plain tree leaves
     pub unlink_here : IsAfter (asks.Remove can.path) at t next
     unlink_here tape =
         let nodes : plain_nodes tape next.nodes ≡ plain.touch at (parent_of can.path) (fin.remove (plain_nodes tape t.nodes) can.path) =
@@ -91,9 +94,11 @@ module _ (t : FileTree) (good : IsGood t) (number : ℕ) (at : Moment) (can : Ca
     unlink_back : (k : ℕ) (f : Laid) → HasLaid next.nodes k f → HasLaid t.nodes k f
     unlink_back k f h = remove_back t.nodes can.path k f (subst (λ m. HasLaid m k f) middle_is ((change_lies_both middle next.nodes dir _ ch (ap (λ (n : Node). n.kind) ch.changed) k f).1 h))
 
+    -- a removal adds no block
     pub unlink_adds : AddsNoBlock t next
     unlink_adds part pos h = record { number = h.number; laid = h.laid; file = unlink_back h.number h.laid h.file; block = h.block }
 
+    -- a removal leaves a good tree good
     pub unlink_good : next.name ≡ t.name → IsGood next
     unlink_good name_is = good_after t next (asks.Remove can.path) at good size name_is unlink_here
         (change_files_same middle next.nodes dir _ ch t.block_size (ap (λ (n : Node). n.kind) ch.changed) (subst (λ m. AreFilesOf t.block_size m) (sym middle_is) (remove_files t.block_size t.nodes can.path good.files)))
@@ -101,14 +106,17 @@ module _ (t : FileTree) (good : IsGood t) (number : ℕ) (at : Moment) (can : Ca
         (fit_same middle next.nodes dir _ ch (ap (λ (n : Node). n.kind) ch.changed) (ap (λ (n : Node). n.keys) ch.changed) (subst AreFit (sym middle_is) (fit_remove t.nodes can.path good.fit)))
         unlink_adds
 
+    -- all other numbers stand where they did after a removal
     pub unlink_numbers : (path : List (List ℕ)) (k : ℕ) → k ≢ number → StandsAt t path k → StandsAt next path k
     unlink_numbers path k apart stands =
         change_numbers middle next.nodes dir _ ch path ∙ ap (λ m. number_at m path) middle_is
         ∙ ap (option_map (λ (n : Node). n.number)) (gone_other t.nodes can.path path (λ e. apart (some_same k number (sym stands ∙ ap (number_at t.nodes) e ∙ can.stands)))) ∙ stands
 
+    -- a removed node's number stands at no path
     pub unlink_gone : ((path : List (List ℕ)) → number_at middle path ≡ Some number → ⊥) → (path : List (List ℕ)) → StandsAt next path number → ⊥
     unlink_gone gone path stands = gone path (sym (change_numbers middle next.nodes dir _ ch path) ∙ stands)
 
+    -- all other files lie as they did after a removal
     pub unlink_lies : OthersLie number t next
     unlink_lies k apart f = (
       λ h. (change_lies_both middle next.nodes dir _ ch (ap (λ (n : Node). n.kind) ch.changed) k f).0 (record {
@@ -151,6 +159,7 @@ module _ (t : FileTree) (good : IsGood t) (number dir : ℕ) (name : List ℕ) (
   from_stands : number_at t.nodes from ≡ Some number
   from_stands = ap (number_at t.nodes) (sym from_named.2) ∙ can.stands
 
+  -- a node that may be renamed may be shifted
   pub can_shift : CanShift t.nodes number dir name
   can_shift = record {
     front = from_named.0;
@@ -169,6 +178,7 @@ module _ (t : FileTree) (good : IsGood t) (number dir : ℕ) (name : List ℕ) (
     here : number_at shifted to ≡ Some number
     here = ap (λ m. number_at m to) shifted_is ∙ ap (λ p. number_at (moved from to t.nodes) p) (sym (append-nil to)) ∙ ap (option_map (λ (n : Node). n.number)) (come t.nodes from to free [] ∙ ap (fin.get t.nodes) (append-nil from)) ∙ from_stands
 
+    -- a node that was shifted is there
     pub shift_there : IsThere shifted number
     shift_there = (to, here)
 
@@ -190,6 +200,7 @@ module _ (t : FileTree) (good : IsGood t) (number dir : ℕ) (name : List ℕ) (
       old_noted : number_at noted from_named.0 ≡ Some old
       old_noted = change_numbers shifted noted number _ note from_named.0 ∙ front_stays old old_stands
 
+      -- the directory that a node leaves is still there when the node is noted
       pub note_there : IsThere noted old
       note_there = (from_named.0, old_noted)
 
@@ -197,6 +208,7 @@ module _ (t : FileTree) (good : IsGood t) (number dir : ℕ) (name : List ℕ) (
         dir_left : number_at left can.up ≡ Some dir
         dir_left = change_numbers noted left old _ leave can.up ∙ change_numbers shifted noted number _ note can.up ∙ up_stays
 
+        -- the directory that a node comes to is there when the other is touched
         pub leave_there : IsThere left dir
         leave_there = (can.up, dir_left)
 
@@ -223,6 +235,7 @@ module _ (t : FileTree) (good : IsGood t) (number dir : ℕ) (name : List ℕ) (
               ≡ record { highest = t.highest; nodes = plain.touch at (parent_of to) (plain.touch at (parent_of can.path) (plain.changed_at (plain.change_noted at) to (plain.moved can.path to (plain_nodes tape t.nodes)))) }
           renamed tape = ap (λ b. cond b (plain_of tape t) (record { highest = t.highest; nodes = plain.touch at (parent_of to) (plain.touch at (parent_of can.path) (plain.changed_at (plain.change_noted at) to (plain.moved can.path to (plain_nodes tape t.nodes)))) })) differ
 
+          -- a rename leaves what the plain tree leaves
           pub move_here : IsAfter (asks.Rename can.path to) at t next
           move_here tape =
               let nodes : plain_nodes tape next.nodes ≡ plain.touch at (parent_of to) (plain.touch at (parent_of can.path) (plain.changed_at (plain.change_noted at) to (plain.moved can.path to (plain_nodes tape t.nodes)))) =
@@ -231,6 +244,7 @@ module _ (t : FileTree) (good : IsGood t) (number dir : ℕ) (name : List ℕ) (
               same_tree (plain_of tape next) (record { highest = t.highest; nodes = plain.touch at (parent_of to) (plain.touch at (parent_of can.path) (plain.changed_at (plain.change_noted at) to (plain.moved can.path to (plain_nodes tape t.nodes)))) }) highest nodes
               ∙ sym (after_free (plain_of tape t) (asks.Rename can.path to) at (free_too tape t (asks.Rename can.path to) (not_read_rename can.path to) can.free) ∙ renamed tape)
 
+          -- all files lie as they did after a rename
           pub move_lies : AllLie t next
           move_lies n f = (
             λ h. (change_lies_both left next.nodes dir _ enter (ap (λ (n : Node). n.kind) enter.changed) n f).0
@@ -254,6 +268,7 @@ module _ (t : FileTree) (good : IsGood t) (number dir : ℕ) (name : List ℕ) (
           move_named : IsUtf8 name → IsNodeName name
           move_named utf8 = fit_name name utf8 (not_bad can.up name (first_none (bad_name to) _ can.free).0)
 
+          -- a rename leaves a good tree good
           pub move_good : next.name ≡ t.name → IsUtf8 name → IsGood next
           move_good name_is utf8 = good_after t next (asks.Rename can.path to) at good size name_is move_here files
               (change_differ left next.nodes dir _ enter (change_differ noted left old _ leave (change_differ shifted noted number _ note (subst NumbersDiffer (sym shifted_is) (move_differ t.nodes from to free good.differ)))))
@@ -272,6 +287,7 @@ module _ (t : FileTree) (good : IsGood t) (number dir : ℕ) (name : List ℕ) (
           same_after : (path : List (List ℕ)) → number_at next.nodes path ≡ number_at shifted path
           same_after path = change_numbers left next.nodes dir _ enter path ∙ change_numbers noted left old _ leave path ∙ change_numbers shifted noted number _ note path
 
+          -- all numbers come to the paths that they move to after a rename
           pub move_numbers : NumbersCome (moved_path can.path to) t next
           move_numbers path n stands =
               same_after (moved_path can.path to path) ∙ ap (λ m. number_at m (moved_path can.path to path)) shifted_is ∙ ap (λ p. number_at (moved from to t.nodes) (moved_path p to path)) from_named.2

@@ -11,25 +11,30 @@ use Rattle.name_tries.proofs.ItemLemmas.{some_same}
 pub use Rattle.name_tries.proofs.ItemLemmas.{in_front, in_rest, in_either}
 
 module _ {X : Type 0} where
+  -- what is in a list stands at some place of it
   pub placed : (x : X) (xs : List X) → IsIn x xs → (i : ℕ) × IsAt xs i x
   placed x [] none = elim none [ ]
   placed x (y ∷ xs) (inl same) = (0, ap (λ z. Some z) (sym same))
   placed x (y ∷ xs) (inr more) = let at = placed x xs more in (suc at.0, at.1)
 
+  -- what stands at a place of a list is in it
   pub found : (x : X) (xs : List X) (i : ℕ) → IsAt xs i x → IsIn x xs
   found x [] i is = cc
   found x (y ∷ xs) zero is = inl (sym (some_same y x is))
   found x (y ∷ xs) (suc i) is = inr (found x xs i is)
 
+  -- what holds of all elements holds of one that is in the list
   pub of_all : (P : X → Type 0) (x : X) (xs : List X) → AllByRecursion P xs → IsIn x xs → P x
   of_all P x [] all none = elim none [ ]
   of_all P x (y ∷ xs) all (inl same) = subst P (sym same) all.0
   of_all P x (y ∷ xs) all (inr more) = of_all P x xs all.1 more
 
+  -- what holds of whatever is in a list holds of all elements
   pub to_all : (P : X → Type 0) (xs : List X) → ((x : X) → IsIn x xs → P x) → AllByRecursion P xs
   to_all P [] each = tt
   to_all P (x ∷ xs) each = (each x (inl refl), to_all P xs (λ y more. each y (inr more)))
 
+  -- a rearranged list has what the first had
   pub moved_in : (xs ys : List X) → IsPermutation xs ys → (x : X) → IsIn x xs → IsIn x ys
   moved_in xs ys moved x here = IsPermutation-keeps xs (IsIn x) here
       (λ l i j in_i in_j is. let at = placed x l is in let there = goes_to l i j in_i in_j at.0 x at.1 in found x (swap l i j) there.to there.is)
@@ -93,6 +98,7 @@ module _ {X : Type 0} (R : X → X → Type 0) where
                 (λ more. more)
                 (forth e (inr here))
 
+  -- two ascending lists, the first below the second, ascend together
   pub up_join : (xs ys : List X) → Up xs → Up ys → ((a b : X) → IsIn a xs → IsIn b ys → R a b) → Up (xs ++ ys)
   up_join [] ys up also across = also
   up_join (x ∷ xs) ys up also across = (

@@ -71,6 +71,7 @@ all_apart (a ∷ raws) share = (
     less : {i j : ℕ} → suc i ≡ suc j → i ≡ j
     less e = omega (arith, e)
 
+-- each node of such an index can be kept
 pub can_keep : (letters : Letters) (size : ℕ) (nodes : List told.Node) (t : AreTold letters size nodes) (at : ℕ) (node : told.Node) → IsAt nodes at node → CanKeep letters size node.kind
 can_keep letters size nodes t at node is = record {
   some_block = t.some_block;
@@ -102,6 +103,7 @@ keys_apart nodes apart at node is = apart_by_places node.xattrs (λ earlier late
 
 -- ---- paths of an index
 
+-- at a place stands one node
 pub one_node : (nodes : List told.Node) (at : ℕ) (a b : told.Node) → IsAt nodes at a → IsAt nodes at b → a ≡ b
 one_node nodes at a b is also = some_same a b (sym is ∙ also)
 
@@ -122,6 +124,7 @@ pub record Ends (nodes : List told.Node) (at : ℕ) (p : List (List ℕ)) (x : L
   pub way : IsPathOf nodes node.parent p
   pub named : node.name ≡ x
 
+-- a path that ends with a name is that of a node with that name in a directory
 pub ends : (nodes : List told.Node) (at : ℕ) (q p : List (List ℕ)) (x : List ℕ) → IsPathOf nodes at q → q ≡ p ++ x ∷ [] → Ends nodes at p x
 ends nodes _ _ p x root e = absurd (no_name p x (sym e))
 ends nodes _ _ p x (below at node front some is way) e =
@@ -187,6 +190,7 @@ module _ (letters : Letters) (size : ℕ) (nodes : List told.Node) (t : AreTold 
           } in
           absurd (omega (arith, old.early, t.names k.number at one))
 
+  -- the next node of the index may be put behind those before it
   pub can_append : (s : StoreView) → s.nodes ≡ m → length s.spots ≡ at → CanAppend s node.parent node.name
   can_append s is_m slots = record {
     path = up.path;
@@ -249,6 +253,7 @@ module _ (letters : Letters) (size : ℕ) (nodes : List told.Node) (t : AreTold 
         record { node = old.node; is = old.is; early = omega (arith, old.early); path_is = old.path_is })
         (is_or_not q p)
 
+    -- with the next node put in, the tree has one node more of the index
     pub built_more : IsBuilt letters size nodes (at + 1) next
     built_more = record {
       each = each_more;
@@ -271,9 +276,11 @@ module _ (letters : Letters) (size : ℕ) (nodes : List told.Node) (t : AreTold 
     renamed : ((path : List (List ℕ)) → number_at m path ≡ Some node.parent → next ≡ fin.insert m (path ++ name ∷ []) kept) → (path : List (List ℕ)) → number_at m path ≡ Some node.parent → next ≡ fin.insert m (path ++ node.name ∷ []) kept
     renamed put path stands = put path stands ∙ ap (λ x. fin.insert m (path ++ x ∷ []) kept) name_is
 
+    -- a node that was appended makes the tree one node longer
     pub appended_built : OnOk r (IsBuilt letters size nodes (at + 1) next)
     appended_built = on_ok r (λ put. built_more next kept slots_are kept_same (renamed put)) done
 
+    -- with the next node put in, the files are still the volume's
     pub appended_files : AreFilesOf size m → LiesWell size n.kind → OnOk r (AreFilesOf size next)
     appended_files all this = on_ok r (λ put. files_more next kept slots_are kept_same (renamed put) all this) done
 
@@ -306,6 +313,7 @@ first_built letters size nodes node n m is number same m_is = subst (λ (m : Nod
   count = fin.len-insert path_total fin.empty [] n ∙ ap (λ (o : Option Node). cond (is_some o) (fin.len (fin.empty {X = Node} {R = path_cmp})) (fin.len (fin.empty {X = Node} {R = path_cmp}) + 1)) (fin.get-empty path_cmp []) ∙ ap (λ n. n + 1) (fin.len-empty path_cmp Node);
 })
 
+-- a tree of the root alone has only files of the volume
 pub first_files : (size : ℕ) (n : Node) (m : Nodes) → m ≡ fin.insert fin.empty [] n → LiesWell size n.kind → AreFilesOf size m
 first_files size n m m_is this = subst (λ (m : Nodes). AreFilesOf size m) (sym m_is) (insert_files size fin.empty [] n (λ path k room there _. absurd (unlike (fin.get (fin.empty {X = Node} {R = path_cmp}) path) k (fin.get-empty path_cmp path) there)) this)
 
@@ -363,6 +371,7 @@ module _ (index : Index) (letters : Letters) (size : ℕ) (can : CanMount index 
       let found = at_path letters size nodes (length nodes) m b 0 o.root [] (slice_get_within nodes 0 o.root o.first) o.first root in
       marked [] found.0 found.1 ∙ ap (λ d. Some (found.0.uid, d)) (dir_same letters size tape o.root.kind found.0.kind found.3.kind o.is_root.dir) ∙ ap (λ u. Some (u, true)) (found.3.uid ∙ uids.root o.root o.first)
 
+  -- the tree that is built of an index has the shape of a valid one
   pub shape : IsShape (mark_at (plain_nodes tape m)) (fin.len (plain_nodes tape m)) index.highest
   shape = record {
     root = root_there;

@@ -100,6 +100,7 @@ ends_below end size block byte count i pos lt ends is = ⊎_elim
     absurd (omega (arith, whole, more, split, lt, ends)))
     (cases_lt pos end)
 
+-- the tree of an index stands in that index's blocks
 pub mounts_lie_below : MountsLieBelow
 mounts_lie_below = record {
   blocks = λ letters size index t part pos is h. built_stands letters size index.nodes (length index.nodes) t.nodes is.nodes h.number h.laid part pos h.file h.block;

@@ -53,6 +53,7 @@ module _ (index : Index) (letters : Letters) (size : ℕ) (can : CanMount index 
         keys = λ key value is. found_in_map IsXattr t.0.xattrs (all_at (λ node. AllByRecursion IsXattr node.xattrs) index.nodes can.valid.formed.xattrs n.number t.0 t.1) key value (ap (λ k. fin.get k key) (sym t.3.keys) ∙ is);
       }
 
+  -- the tree that is built of an index is good
   pub built_good : AreFilesOf size m → (name : Name) (root : told.Node) → IsAt index.nodes 0 root → name ≡ root.name → size < 2 ^ 32 → (spare : ℕ)
       → IsGood (record { highest = index.highest; name = name; block_size = size; nodes = m; spare = spare })
   built_good files name root first named small spare = record {

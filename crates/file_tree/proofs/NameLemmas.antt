@@ -33,9 +33,11 @@ module _ (names : Tries) (spots : List (Option Spot)) (at next : Held) (n : ℕ)
   keys : ◌≡◌ {A = Key} (q.spot.parent, q.spot.name) (z.parent, x)
   keys = ap (λ (s : Spot). (s.parent, s.name)) same ∙ ap (λ y. (z.parent, y)) (sym spelled)
 
+  -- the directory of the node has a root among the tries
   pub low : z.parent < length names.roots.items
   low = subst (λ (s : Spot). s.parent < length names.roots.items) same q.below
 
+  -- the number gets the node's name in its directory, and others keep theirs
   pub is_keyed : IsKeyed (keys_of at) (keys_of next) n (Some (z.parent, x))
   is_keyed = subst (λ (k : Key). IsKeyed (keys_of at) (keys_of next) n (Some k)) keys (keys_kept at next n (Some q.spot) q.other q.kept)
 
@@ -64,9 +66,11 @@ module _ (names : Tries) (spots : List (Option Spot)) (at next : Held) (n : ℕ)
           let apart : m ≢ n = λ e. none_not (at m) h.1 (ap at e ∙ q.free) h.2 in
           (h.1, h.2, q.there m h.1 (q.kept.others m apart ∙ h.2), f.1 ∙ ap (λ (k : Key). Some (z.parent, k.1)) (sym h.3))
 
+      -- something is kept at the number that is nearest by name
       pub near_there : IsSome (held spots m)
       near_there = ap is_some beside.2
 
+      -- the node may be put beside the number that is nearest by name
       pub can_put : (w : Spot) → held spots m ≡ Some w → (y : Name) → y ≡ w.name
           → ((keys : Keys) (w : AreTries names keys) (t : Trie) → w.shape z.parent ≡ Some t → IsTowards names.forks.items near.from x t)
           → CanPut names (keys_of at) z.parent n x near y
@@ -93,6 +97,7 @@ can_cut names at n w there z is x spelled = record {
   there = key_at at n (Some z) there.0 is ∙ ap (λ y. Some (z.parent, y)) (sym spelled);
 }
 
+-- a node that is taken out has no name any more
 pub cut_keyed : (at : Held) (n : ℕ) → IsNode at n → (next : Held) → IsKept at next n None → IsKeyed (keys_of at) (keys_of next) n None
 cut_keyed at n there next kept = keys_kept at next n None there.0 kept
 

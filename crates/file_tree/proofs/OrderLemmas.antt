@@ -95,6 +95,7 @@ module _ {X : Type 0} where
 
 -- what stands in a list of answers
 module _ {X Y : Type 0} (f : X → Y) where
+  -- an element of a list that was made from another is made from one there
   pub of_mapped : (xs : List X) (i : ℕ) (y : Y) → slice_get (map f xs) i ≡ Some y → (x : X) × (slice_get xs i ≡ Some x) × (y ≡ f x)
   of_mapped [] i y is = cc
   of_mapped (x ∷ xs) zero y is = (x, refl, sym (some_same (f x) y is))
@@ -118,6 +119,7 @@ joined : (p q r : Path) → p ++ (q ++ r) ≡ (p ++ q) ++ r
 joined [] q r = refl
 joined (x ∷ p) q r = ap (λ l. x ∷ l) (joined p q r)
 
+-- of two numbers one is the less, or they are the same
 pub trichotomy : (i j : ℕ) (P : Type 0) → (i < j → P) → (i ≡ j → P) → (j < i → P) → P
 trichotomy zero zero P lt eq gt = eq refl
 trichotomy zero (suc j) P lt eq gt = lt (omega arith)
@@ -167,9 +169,11 @@ module _ (letters : Letters) (volume : List ℕ) (m : Nodes) (count highest : �
   pub entry_at : (at : ℕ) (node : told.Node) → IsAt nodes at node → (e : Path × Node) × (slice_get (fin.entries m) at ≡ Some e) × (node ≡ tell e)
   entry_at = of_mapped tell (fin.entries m)
 
+  -- an entry of the map is told as a node at its place
   pub at_entry : (at : ℕ) (e : Path × Node) → slice_get (fin.entries m) at ≡ Some e → IsAt nodes at (tell e)
   at_entry = at_mapped tell (fin.entries m)
 
+  -- the root is the first entry
   pub root_entry : (node : Node) × (slice_get (fin.entries m) 0 ≡ Some ([], node)) × (node.kind ≡ kinds.Dir)
   root_entry =
       let found = dir_marked m [] 1 shape.root in
@@ -182,6 +186,7 @@ module _ (letters : Letters) (volume : List ℕ) (m : Nodes) (count highest : �
           let first = some_first (fin.entries m) (suc i) ([], node) is in
           absurd (none_less first.0.0 (ascends (fin.entries m) 0 (suc i) first.0.0 [] first.0.1 node (sorted_map_entries m) (omega arith) first.1 is))
 
+  -- the path of the root stands first
   pub root_place : (at : ℕ) (p : Path) (n : Node) → slice_get (fin.entries m) at ≡ Some (p, n) → p ≡ [] → at ≡ 0
   root_place at p n is e =
       sym (entry_place m at p n is) ∙ ap (λ q. place_of q (fin.keys m)) e ∙ entry_place m 0 [] root_entry.0 root_entry.1
@@ -195,6 +200,7 @@ module _ (letters : Letters) (volume : List ℕ) (m : Nodes) (count highest : �
     pub before : place < at
     pub parent : (tell (u ++ x ∷ [], n)).parent ≡ place
 
+  -- the directory of an entry stands before it, and is told as its parent
   pub up : (at : ℕ) (u : Path) (x : List ℕ) (n : Node) → slice_get (fin.entries m) at ≡ Some (u ++ x ∷ [], n) → IsUp at u x n
   up at u x n is =
       let mark : mark_at (plain_nodes whole m) (u ++ x ∷ []) ≡ Some (n.uid, is_dir (plain_kind_of whole n.kind)) = ap mark_of (plain_get whole m (u ++ x ∷ []) ∙ ap (option_map (plain_node_of whole)) (entry_get m at (u ++ x ∷ []) n is)) in
@@ -237,6 +243,7 @@ module _ (letters : Letters) (volume : List ℕ) (m : Nodes) (count highest : �
     pub is : slice_get (fin.entries m) at ≡ Some (u ++ x ∷ [], n)
     pub told_is : node ≡ tell (u ++ x ∷ [], n)
 
+  -- a node other than the root comes after its directory, and behind what is in it
   pub later : (at : ℕ) (node : told.Node) → 0 < at → IsAt nodes at node → IsLater at node
   later at node some is =
       let e = entry_at at node is in
@@ -298,5 +305,6 @@ module _ (letters : Letters) (volume : List ℕ) (m : Nodes) (count highest : �
     together = lies_before;
   }
 
+-- the nodes that a tree tells are in the order of a document
 pub told_in_order : (letters : Letters) (t : FileTree) → IsGood t → AreInOrder (told_nodes letters t)
 told_in_order letters t good = in_order letters t.name t.nodes (fin.len (plain_nodes whole t.nodes)) t.highest (good.valid whole)

@@ -22,6 +22,7 @@ by_last (y ∷ q) = inr (by (by_last q))
     by (inl e) = ([], y, ap (λ l. y ∷ l) e)
     by (inr more) = (y ∷ more.0, more.1, ap (λ l. y ∷ l) more.2)
 
+-- a path with a name is not the root's
 pub no_name : (p : List (List ℕ)) (x : List ℕ) → p ++ x ∷ [] ≡ [] → ⊥
 no_name [] x e = cc
 no_name (y ∷ p) x e = cc
@@ -43,9 +44,11 @@ same_last (z ∷ p) (w ∷ q) x y e =
     first [] = []
     first (z ∷ l) = z
 
+-- a path with one name more is longer by one
 pub longer : (p : List (List ℕ)) (x : List ℕ) → length (p ++ x ∷ []) ≡ length p + 1
 longer p x = length-append p (x ∷ [])
 
+-- a path is another one, or it is not
 pub is_or_not : (p q : List (List ℕ)) → (q ≡ p) ⊎ (q ≡ p → ⊥)
 is_or_not p q = elim (same_path q p) as (λ b. same_path q p ≡ b → (q ≡ p) ⊎ (q ≡ p → ⊥)) [
   | true ↦ λ same. inl (same_is q p same)
@@ -54,18 +57,23 @@ is_or_not p q = elim (same_path q p) as (λ b. same_path q p ≡ b → (q ≡ p)
 
 -- maps of nodes of any kind
 module _ {X : Type 0} where
+  -- what was put in at a path stands there
   pub get_here : (m : fin.FinMap path_cmp X) (p : List (List ℕ)) (v : X) → fin.get (fin.insert m p v) p ≡ Some v
   get_here m p v = fin.get-insert path_total m p v p ∙ ap (λ b. cond b (Some v) (fin.get m p)) (is_same p p refl)
 
+  -- what was put in at a path leaves what stands at another
   pub get_other : (m : fin.FinMap path_cmp X) (p q : List (List ℕ)) (v : X) → (q ≡ p → ⊥) → fin.get (fin.insert m p v) q ≡ fin.get m q
   get_other m p q v apart = fin.get-insert path_total m p v q ∙ ap (λ b. cond b (Some v) (fin.get m q)) (not_true (same_path q p) (λ e. apart (same_is q p e)))
 
+  -- what was removed at a path is gone
   pub gone_here : (m : fin.FinMap path_cmp X) (p : List (List ℕ)) → fin.get (fin.remove m p) p ≡ None
   gone_here m p = fin.get-remove path_total m p p ∙ ap (λ b. cond b None (fin.get m p)) (is_same p p refl)
 
+  -- what was removed at a path leaves what stands at another
   pub gone_other : (m : fin.FinMap path_cmp X) (p q : List (List ℕ)) → (q ≡ p → ⊥) → fin.get (fin.remove m p) q ≡ fin.get m q
   gone_other m p q apart = fin.get-remove path_total m p q ∙ ap (λ b. cond b None (fin.get m q)) (not_true (same_path q p) (λ e. apart (same_is q p e)))
 
+  -- maps with the same at each path are one
   pub same_nodes : (m n : fin.FinMap path_cmp X) → ((q : List (List ℕ)) → fin.get m q ≡ fin.get n q) → m ≡ n
   same_nodes m n same = fin.same_map path_total path_exact m n same
 
@@ -101,6 +109,7 @@ has_it m p n is = by (fin.get m p) refl
         eq_self : (k : ℕ) → eqb k k ≡ true
         eq_self k = grind (arith, nat_tests)
 
+-- a number that the map has is that of a node at some path
 pub path_of : (m : Nodes) (n : ℕ) → has_number m n ≡ true → (p : List (List ℕ)) × (node : Node) × (fin.get m p ≡ Some node) × (node.number ≡ n)
 path_of m n has =
     let found = passing (λ path. is_number n (fin.get m path)) (fin.keys m) has in
@@ -113,6 +122,7 @@ path_of m n has =
         let equal : node.number ≡ n = grind (arith, nat_tests) in
         (p, node, e, equal)
 
+-- the number at a path is that of the node there
 pub number_is : (m : Nodes) (p : List (List ℕ)) (node : Node) → fin.get m p ≡ Some node → number_at m p ≡ Some node.number
 number_is m p node is = ap (option_map (λ (n : Node). n.number)) is
 

@@ -68,6 +68,7 @@ module _ (m : Nodes) where
     pub rest_there : AllByRecursion (IsThere m) rest
     pub cover : (q : Path) (n : ℕ) → number_at m q ≡ Some n → IsIn n done ⊎ Under q rest
 
+  -- a walk begins at the root
   pub walk_begins : (n : ℕ) → number_at m [] ≡ Some n → Walked [] (n ∷ [])
   walk_begins n root = record {
     done_up = tt;
@@ -207,6 +208,7 @@ module _ (m : Nodes) where
                 let found = numbered r.names run r.each x (r.every x up.0 up.1) in
                 inr (record { number = found.0; within = in_front found.0 run rest found.1; p = p ++ x ∷ []; p_is = found.2; r = t; is = path })
 
+        -- a walk goes from a node on to what is in it
         pub walk_steps : Walked (done ++ n ∷ []) (run ++ rest)
         walk_steps = record {
           done_up = up_join Before done (n ∷ []) w.done_up (tt, tt) to_done;

@@ -25,9 +25,11 @@ all_joined : {X : Type 0} (P : X → Type 0) (xs ys : List X) → AllByRecursion
 all_joined P [] ys a b = b
 all_joined P (x ∷ xs) ys a b = (a.0, all_joined P xs ys a.1 b)
 
+-- what holds of all extents and of the new one holds of them with it
 pub all_put : (P : Extent → Type 0) (new : Extent) (es : List Extent) → AllByRecursion P es → P new → AllByRecursion P (put_among new es)
 all_put P new es all this = all_joined P (filter (λ e. ltb e.offset new.offset) es) (new ∷ filter (λ e. leb new.offset e.offset) es) (all_filtered P (λ e. ltb e.offset new.offset) es all) (this, all_filtered P (λ e. leb new.offset e.offset) es all)
 
+-- what follows from two facts of each element holds of all
 pub all_both : {X : Type 0} (P Q R : X → Type 0) → ((x : X) → P x → Q x → R x) → (xs : List X) → AllByRecursion P xs → AllByRecursion Q xs → AllByRecursion R xs
 all_both P Q R f [] a b = tt
 all_both P Q R f (x ∷ xs) a b = (f x a.0 b.0, all_both P Q R f xs a.1 b.1)
@@ -83,6 +85,7 @@ module _ (letters : Letters) (size long : ℕ) (front rest : List RawExtent) (ra
     still_apart : (later : RawExtent) → LieApart laid.extents later → AreApart raw later → LieApart next.extents later
     still_apart later lie away = subst (λ l. LieApart l later) (sym extents_are) (all_put (IsApartFrom later) new laid.extents lie (new_apart later away))
 
+    -- one extent more of what is told comes into the file, apart from the rest
     pub placed_more : IsPlaced letters size long (front ++ raw ∷ []) rest next
     placed_more = record {
       block_size = ap (λ (f : Laid). f.block_size) over ∙ p.block_size;

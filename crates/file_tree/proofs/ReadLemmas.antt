@@ -51,6 +51,7 @@ lost tape m valid path n node is there =
     opened : (m : plain.Nodes) → fin.get m path ≡ None → missing_below (plain_kind_of tape node.kind) ≡ why_missing m path (length path) → no_node m path ≡ Some (missing_below (plain_kind_of tape node.kind))
     opened m none why = rw none (ap (λ r. Some r) (sym why))
 
+-- where a number stands at a path, no node is missing there
 pub found_there : (tape : Tape) (m : Nodes) (path : List (List ℕ)) (n : ℕ) → number_at m path ≡ Some n → no_node (plain_nodes tape m) path ≡ None
 found_there tape m path n stands =
     let node = node_at m path n stands in
@@ -78,6 +79,7 @@ dir_of_kind tape m path node k is kind_is = opened (plain_nodes tape m) (plain_n
     opened m n (plain_kinds.File c) is e = rw (is, e) refl
     opened m n (plain_kinds.Link t) is e = rw (is, e) refl
 
+-- whether a file is refused as none depends on the node at the path
 pub file_of_kind : (tape : Tape) (m : Nodes) (path : List (List ℕ)) (node : Node) (k : plain_kind.Kind) → fin.get m path ≡ Some node → plain_kind_of tape node.kind ≡ k → no_file (plain_nodes tape m) path ≡ file_check k
 file_of_kind tape m path node k is kind_is = opened (plain_nodes tape m) (plain_node_of tape node) k (plain_get tape m path ∙ ap (option_map (plain_node_of tape)) is) kind_is
   where
@@ -98,16 +100,19 @@ none_checks m path why none is = (same_dir none ∙ is, same_file none ∙ is)
 
 -- ---- what the calls' checks say
 
+-- a path that leads nowhere is found lost as the last node on its way says
 pub lost_found : (t : FileTree) (path : List (List ℕ)) (kind : HeldKind) (found : Found) → found ≡ lost_below kind → fin.get t.nodes path ≡ None → IsFound t path found
 lost_found t path kinds.Dir found is none = subst (IsFound t path) (sym is) none
 lost_found t path (kinds.File room) found is none = subst (IsFound t path) (sym is) none
 lost_found t path (kinds.Link text) found is none = subst (IsFound t path) (sym is) none
 
+-- why nothing is found below a node is the same in the plain tree
 pub lost_refusal : (tape : Tape) (kind : HeldKind) → Some (missing_below (plain_kind_of tape kind)) ≡ refusal_found (lost_below kind)
 lost_refusal tape kinds.Dir = refl
 lost_refusal tape (kinds.File room) = refl
 lost_refusal tape (kinds.Link text) = refl
 
+-- a node's sort is that of its plain form
 pub sort_same : (tape : Tape) (kind : HeldKind) → plain.sort_of (plain_kind_of tape kind) ≡ sort_in kind
 sort_same tape kinds.Dir = refl
 sort_same tape (kinds.File room) = refl
@@ -123,6 +128,7 @@ file_says sorts.Dir = Some refusals.IsDir
 file_says sorts.File = None
 file_says sorts.Link = Some refusals.IsLink
 
+-- whether a directory is refused as none goes by the sort of the node found
 pub dir_by : (t : FileTree) (path : List (List ℕ)) (number : ℕ) (sort : Sort) → StandsAt t path number → IsOfSort t number sort → dir_says sort ≡ no_dir (plain_nodes whole t.nodes) path
 dir_by t path number sort stands of = by node.0.kind refl
   where
@@ -134,6 +140,7 @@ dir_by t path number sort stands of = by node.0.kind refl
     by (kinds.File room) e = ap dir_says (sym node.2 ∙ ap sort_in e) ∙ sym (dir_of_kind whole t.nodes path node.0 (plain_kind_of whole (kinds.File room)) node.1 (ap (plain_kind_of whole) e))
     by (kinds.Link text) e = ap dir_says (sym node.2 ∙ ap sort_in e) ∙ sym (dir_of_kind whole t.nodes path node.0 (plain_kinds.Link text) node.1 (ap (plain_kind_of whole) e))
 
+-- whether a file is refused as none goes by the sort of the node found
 pub file_by : (t : FileTree) (path : List (List ℕ)) (number : ℕ) (sort : Sort) → StandsAt t path number → IsOfSort t number sort → file_says sort ≡ no_file (plain_nodes whole t.nodes) path
 file_by t path number sort stands of = by node.0.kind refl
   where
@@ -145,24 +152,29 @@ file_by t path number sort stands of = by node.0.kind refl
     by (kinds.File room) e = ap file_says (sym node.2 ∙ ap sort_in e) ∙ sym (file_of_kind whole t.nodes path node.0 (plain_kind_of whole (kinds.File room)) node.1 (ap (plain_kind_of whole) e))
     by (kinds.Link text) e = ap file_says (sym node.2 ∙ ap sort_in e) ∙ sym (file_of_kind whole t.nodes path node.0 (plain_kinds.Link text) node.1 (ap (plain_kind_of whole) e))
 
+-- a tree with all nodes it may have is refused as too full
 pub full_then : (t : FileTree) (n : ℕ) → n ≡ fin.len t.nodes → most_nodes ≤ n → refuse_if (nat_le most_nodes n) refusals.TooMany ≡ too_many (plain_of whole t)
 full_then t n is le =
     let e : nat_le most_nodes n ≡ true = grind (arith, nat_tests) in
     ap (λ b. refuse_if b refusals.TooMany) e ∙ sym (ap (λ b. refuse_if (b || nat_le (2 ^ 62) t.highest) refusals.TooMany) (ap (nat_le most_nodes) (plain_len whole t.nodes ∙ sym is) ∙ e))
 
+-- a tree with room is refused as too full only for its highest uid
 pub full_else : (t : FileTree) (n h : ℕ) → n ≡ fin.len t.nodes → n < most_nodes → h ≡ t.highest → refuse_if (nat_le (2 ^ 62) h) refusals.TooMany ≡ too_many (plain_of whole t)
 full_else t n h is lt highest =
     let e : nat_le most_nodes n ≡ false = grind (arith, nat_tests) in
     sym (ap (λ b. refuse_if (b || nat_le (2 ^ 62) t.highest) refusals.TooMany) (ap (nat_le most_nodes) (plain_len whole t.nodes ∙ sym is) ∙ e) ∙ ap (λ k. refuse_if (nat_le (2 ^ 62) k) refusals.TooMany) (sym highest))
 
+-- what follows from an answer follows where there is one
 pub if_ok : {A E : Type 0} {P Q : A → Type 0} (r : Result A E) → ((v : A) → P v → Q v) → IfOk r P → IfOk r Q
 if_ok (Ok v) f p = f v p
 if_ok (Err e) f p = p
 
+-- the facts that are told of a node are those of its plain form
 pub facts_are : (t : FileTree) (number : ℕ) (node : Node) (facts : Facts) → ((path : List (List ℕ)) → StandsAt t path number → fin.get t.nodes path ≡ Some node) → ((tape : Tape) → facts ≡ plain.facts_of (plain_node_of tape node))
     → (tape : Tape) (path : List (List ℕ)) (n : plain_node.Node) → StandsAt t path number → fin.get (plain_of tape t).nodes path ≡ Some n → facts ≡ plain.facts_of n
 facts_are t number node facts there are tape path n stands is =
     are tape ∙ ap plain.facts_of (some_same (plain_node_of tape node) n (sym (plain_get tape t.nodes path ∙ ap (option_map (plain_node_of tape)) (there path stands)) ∙ is))
 
+-- a file is as long as its plain form has cells
 pub length_same : (tape : Tape) (room : Room) → room.laid.length ≡ length (plain.cells_of_kind (plain_kind_of tape (kinds.File room)))
 length_same tape room = sym (long_as tape room.laid)

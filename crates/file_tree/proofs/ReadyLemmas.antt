@@ -51,6 +51,7 @@ rename_left nodes from to up name good some is =
     ∙ ap (λ b. first_of (b ∷ no_node nodes from ∷ no_dir nodes (parent_of to) ∷ move_left nodes from to ∷ [])) (ap at_root is ∙ not_root up name)
     ∙ ap (λ p. first_of (no_node nodes from ∷ no_dir nodes p ∷ move_left nodes from to ∷ [])) (ap parent_of is ∙ parent_ends up name)
 
+-- a rename whose source or directory is missing is refused so
 pub rename_refused : (nodes : plain.Nodes) (from to up : Path) (name : Name) (r : Refusal) → bad_name to ≡ None → at_root from ≡ None → to ≡ up ++ name ∷ [] → first_of (no_node nodes from ∷ no_dir nodes up ∷ []) ≡ Some r → rename_refusal nodes from to ≡ Some r
 rename_refused nodes from to up name r good some is refused = rename_left nodes from to up name good some is ∙ before_third (no_node nodes from) (no_dir nodes up) (move_left nodes from to) r refused
 
@@ -68,6 +69,7 @@ stands_or_not t path o is = ap is_some (plain_get whole t.nodes path) ∙ by (fi
 pub taken : (t : FileTree) (path : Path) (o : Option ℕ) (later : Option Refusal) → number_at t.nodes path ≡ o → is_some o ≡ true → first_of (exists_at (plain_nodes whole t.nodes) path ∷ later ∷ []) ≡ Some refusals.Exists
 taken t path o later is some = ap (λ b. first_of (refuse_if b refusals.Exists ∷ later ∷ [])) (stands_or_not t path o is ∙ some)
 
+-- where nothing stands at a path, it is not refused as taken
 pub not_taken : (t : FileTree) (path : Path) (o : Option ℕ) (later : Option Refusal) → number_at t.nodes path ≡ o → is_some o ≡ false → first_of (exists_at (plain_nodes whole t.nodes) path ∷ later ∷ []) ≡ later
 not_taken t path o later is none = ap (λ b. first_of (refuse_if b refusals.Exists ∷ later ∷ [])) (stands_or_not t path o is ∙ none) ∙ only later
 
@@ -76,10 +78,12 @@ pub moved_taken : (t : FileTree) (from to : Path) (o : Option ℕ) → same_path
 moved_taken t from to o other is some =
     ap (λ b. cond b None (first_of (exists_at (plain_nodes whole t.nodes) to ∷ refuse_if (is_below from to) refusals.Inside ∷ []))) other ∙ taken t to o (refuse_if (is_below from to) refusals.Inside) is some
 
+-- a rename to a free path is refused only where it goes into itself
 pub moved_freely : (t : FileTree) (from to : Path) (o : Option ℕ) → same_path from to ≡ false → number_at t.nodes to ≡ o → is_some o ≡ false → move_left (plain_nodes whole t.nodes) from to ≡ refuse_if (is_below from to) refusals.Inside
 moved_freely t from to o other is none =
     ap (λ b. cond b None (first_of (exists_at (plain_nodes whole t.nodes) to ∷ refuse_if (is_below from to) refusals.Inside ∷ []))) other ∙ not_taken t to o (refuse_if (is_below from to) refusals.Inside) is none
 
+-- where no number stands at a path, nothing stands there
 pub none_at : (m : Nodes) (path : Path) → number_at m path ≡ None → fin.get m path ≡ None
 none_at m path is = by (fin.get m path) refl
   where

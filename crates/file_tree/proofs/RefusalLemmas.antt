@@ -54,6 +54,7 @@ module _ (a b : Tape) (m : Nodes) where
           kind (kinds.File room) is = rw (plain_get a m path ∙ ap (option_map (plain_node_of a)) e, plain_get b m path ∙ ap (option_map (plain_node_of b)) e, is) refl
           kind (kinds.Link text) is = rw (plain_get a m path ∙ ap (option_map (plain_node_of a)) e, plain_get b m path ∙ ap (option_map (plain_node_of b)) e, is) refl
 
+  -- whether a file is refused as none is the same on each tape
   pub no_file_alike : (path : List (List ℕ)) → no_file (plain_nodes a m) path ≡ no_file (plain_nodes b m) path
   no_file_alike path = by (fin.get m path) refl
     where
@@ -196,6 +197,7 @@ read_alike tape t path offset count = by (no_file (plain_nodes whole t.nodes) pa
     by None false e f = inl (here ∙ ap (λ o. first_of (o ∷ damaged (plain_nodes tape t.nodes) path offset count ∷ [])) e ∙ ap (λ b. first_of (refuse_if b refusals.Damaged ∷ [])) f ∙ sym (whole_read t path offset count ∙ e))
     by None true e f = inr (here ∙ ap (λ o. first_of (o ∷ damaged (plain_nodes tape t.nodes) path offset count ∷ [])) e ∙ ap (λ b. first_of (refuse_if b refusals.Damaged ∷ [])) f, whole_read t path offset count ∙ e)
 
+-- a refusal is the same on each tape, but that of a lost byte
 pub refusals_alike : RefusalsAreAlike
 refusals_alike tape t (Mkdir path) = inl (alike tape whole t (Mkdir path) (λ p o c e. cc))
 refusals_alike tape t (Create path) = inl (alike tape whole t (Create path) (λ p o c e. cc))

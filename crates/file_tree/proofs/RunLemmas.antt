@@ -73,6 +73,7 @@ module _ (at : Held) (m : Nodes) (s : IsShown at m) (dir : ℕ) (p : Path) (ther
       key_at at n (Some (spot up.0.number name node.0)) (λ e. s.behind p name node.0 node.1 (node.2 ∙ e))
       (ap at (sym node.2) ∙ kept_at at m s p name node.0 up.0 node.1 up.1) ∙ ap (λ k. Some (k, name)) up.2
 
+  -- the numbers in a directory stand there in a run
   pub run_at : (ns : List ℕ) → IsListed (keys_of at) dir ns → IsRunAt m p ns
   run_at ns r = record {
     names = map (name_in (keys_of at)) ns;
@@ -144,6 +145,7 @@ line_names at dir (n ∷ ns) each =
     ap (λ o. map (λ (e : Entry). e.name) (lines_in o ++ lines_at at ns)) h.2 ∙ ap (λ l. h.1.name ∷ l) (line_names at dir ns (λ k here. each k (inr here)))
     ∙ ap (λ x. x ∷ map (name_in (keys_of at)) ns) (ap (λ (k : Key). k.1) h.3 ∙ sym (ap name_of told.1))
 
+-- the lines of what is in a directory are those of the plain tree's listing
 pub lines_are : (at : Held) (m : Nodes) → IsShown at m → (dir : ℕ) (ns : List ℕ) → IsListed (keys_of at) dir ns
     → (tape : Tape) (p : Path) → number_at m p ≡ Some dir → lines_at at ns ≡ plain.entries_in (plain_nodes tape m) p
 lines_are at m s dir ns r tape p there = listed (lines_at at ns) (plain_nodes tape m) p sorted (λ q. by q (fin.get m (p ++ q ∷ [])) refl)
@@ -177,11 +179,13 @@ lines_more at (k ∷ ns) zero n z is kept = ap (λ o. lines_in o ++ []) (ap at (
 lines_more at (k ∷ ns) (suc i) n z is kept =
     ap (λ l. lines_in (at k) ++ l) (lines_more at ns i n z is kept) ∙ sym (append_assoc (lines_in (at k)) (lines_at at (take i ns)) (line_of z ∷ []))
 
+-- one number more adds its line
 pub lines_next : (at : Held) (ns : List ℕ) (i n : ℕ) (z : Spot) → IsAt ns i n → at n ≡ Some z → lines_at at (take (i + 1) ns) ≡ lines_at at (take i ns) ++ line_of z ∷ []
 lines_next at ns i n z is kept = let e : i + 1 ≡ suc i = omega arith in ap (λ k. lines_at at (take k ns)) e ∙ lines_more at ns i n z is kept
 
 -- ---- what a search tells
 
+-- what a look-up in a directory gives is the number that stands there
 pub child_result : (at : Held) (m : Nodes) → IsShown at m → (dir : ℕ) (name asked : Name) (r : Option ℕ) → name ≡ asked
     → IfSome r (λ n. keys_of at n ≡ Some (dir, name)) → IfNone r ((n : ℕ) → keys_of at n ≡ Some (dir, name) → ⊥)
     → (p : Path) → number_at m p ≡ Some dir → number_at m (p ++ asked ∷ []) ≡ r
@@ -203,11 +207,13 @@ above_there spots m s q r k is = by (fin.get m q) refl
     by (Some node) e = (node.number, number_is m q node e)
     by None e = let wrong : None ≡ Some k = sym (ap (option_map (λ (n : Node). n.number)) (none_past spots m s q r e)) ∙ is in cc
 
+-- at each number in a directory something is kept
 pub all_some : (at : Held) (dir : ℕ) (ns : List ℕ) → IsListed (keys_of at) dir ns → AllByRecursion (λ n. IsSome (at n)) ns
 all_some at dir ns r = to_all (λ n. IsSome (at n)) ns (λ n here. let told = r.each n here in near_held at n dir told.0 told.1)
 
 -- ---- whether anything is in a directory
 
+-- whether anything is in a directory is whether its listing has an entry
 pub anything_in : (at : Held) (m : Nodes) → IsShown at m → (dir : ℕ) (p : Path) → number_at m p ≡ Some dir → (some : Bool)
     → (IsTrue some → (n : ℕ) × (name : Name) × (keys_of at n ≡ Some (dir, name)))
     → (IsFalse some → (n : ℕ) (name : Name) → keys_of at n ≡ Some (dir, name) → ⊥)

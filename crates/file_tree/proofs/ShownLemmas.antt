@@ -8,16 +8,20 @@ use Rattle.file_tree.specs.Seen.{Held, IsShown}
 use Rattle.name_tries.proofs.ItemLemmas.{some_same}
 use Rattle.file_tree.proofs.PathLemmas.{by_last, longer, path_of, number_is, node_at}
 
+-- a node under its name in a directory, as it is kept
 abbrev pub spot : ℕ → List ℕ → Node → Spot
 spot parent name node = record { parent = parent; name = name; node = node }
 
+-- what is given as the same is kept as one
 pub same_spot : (a b : Spot) → ◌≡◌ {A = Option Spot} (Some a) (Some b) → a ≡ b
 same_spot a b e = some_same a b e
 
 module _ (at : Held) (m : Nodes) (s : IsShown at m) where
+  -- the root's number is 0
   pub root_number : (node : Node) → fin.get m [] ≡ Some node → node.number ≡ 0
   root_number node is = some_same node.number 0 (sym (number_is m [] node is) ∙ s.root)
 
+  -- above a node stands its directory
   pub dir_of : (p : List (List ℕ)) (x : List ℕ) (node : Node) → fin.get m (p ++ x ∷ []) ≡ Some node → (dir : Node) × (fin.get m p ≡ Some dir)
   dir_of p x node is = by (fin.get m p) refl
     where
@@ -57,9 +61,11 @@ module _ (at : Held) (m : Nodes) (s : IsShown at m) where
   one_from zero p q a b short is also same = one_step p q a b (λ u v c d less _ _ _. absurd (omega (arith, less, short))) is also same
   one_from (suc k) p q a b short is also same = one_step p q a b (λ u v c d less. one_from k u v c d (omega (arith, less, short))) is also same
 
+  -- two paths with one number are the same path
   pub one_path : (p q : List (List ℕ)) (a b : Node) → fin.get m p ≡ Some a → fin.get m q ≡ Some b → a.number ≡ b.number → p ≡ q
   one_path p q a b is also same = one_from (length p) p q a b (omega arith) is also same
 
+  -- two paths at which one number stands are the same path
   pub one_number : (p q : List (List ℕ)) (n : ℕ) → number_at m p ≡ Some n → number_at m q ≡ Some n → p ≡ q
   one_number p q n is also =
       let a = node_at m p n is in

@@ -83,6 +83,7 @@ all_apart (r ∷ raws) each = (
   all_apart raws (λ i j a b differ is also. each (suc i) (suc j) a b (λ e. differ (omega (arith, e))) is also),
 )
 
+-- extents that can come into a file can do so in any order
 pub moved_raws : (letters : Letters) (size long : ℕ) (raws sorted : List RawExtent) → IsPermutation raws sorted → AreRaws letters size long raws → AreRaws letters size long sorted
 moved_raws letters size long raws sorted moved are =
     let back = IsPermutation-sym raws sorted moved in
@@ -257,6 +258,7 @@ module _ (letters : Letters) (long : ℕ) where
       (one_way sorted raws (IsPermutation-sym raws sorted moved) also apart)
       (one_way raws sorted moved apart also)
 
+-- a file lies the same in whatever order its extents are told
 pub moved_laid : (letters : Letters) (size long : ℕ) (raws sorted : List RawExtent) → IsPermutation raws sorted → AreRaws letters size long raws → laid_of letters size long sorted ≡ laid_of letters size long raws
 moved_laid letters size long raws sorted moved are =
     ap (λ es. record { block_size = size; length = long; extents = es })

@@ -21,6 +21,7 @@ use Rattle.file_tree.proofs.PlaceLemmas.{kept_node, node_now, held_within, held_
 use Rattle.file_tree.proofs.PlainLemmas.{none_plain, len_moved, bare_too}
 
 module _ (spots next : List (Option Spot)) (count : ℕ) (m : Nodes) (s : IsStored spots count m) where
+  -- a new node under a free name is in the map that is stored
   pub stored_put : (p : List (List ℕ)) (x : List ℕ) (d : ℕ) (node : Node) (place : ℕ) → number_at m p ≡ Some d → fin.get m (p ++ x ∷ []) ≡ None → node.number ≡ place → held spots place ≡ None → place < most_nodes
       → IsSetIn spots next place (Some (record { parent = d; name = x; node = node })) → used next ≡ used spots + 1 → IsStored next (count + 1) (fin.insert m (p ++ x ∷ []) node)
   stored_put p x d node place dir free is empty fits put more = record {
@@ -30,6 +31,7 @@ module _ (spots next : List (Option Spot)) (count : ℕ) (m : Nodes) (s : IsStor
     few = omega (arith, s.few, put.long);
   }
 
+  -- a node that may leave is gone from the map that is stored
   pub stored_take : (p : List (List ℕ)) (x : List ℕ) (n : ℕ) → number_at m (p ++ x ∷ []) ≡ Some n → CanLeave (plain_nodes whole m) (p ++ x ∷ []) → IsSetIn spots next n None → used next + 1 ≡ used spots
       → IsStored next (count - 1) (fin.remove m (p ++ x ∷ []))
   stored_take p x n is can put less =
@@ -43,6 +45,7 @@ module _ (spots next : List (Option Spot)) (count : ℕ) (m : Nodes) (s : IsStor
         few = omega (arith, s.few, put.long, long);
       }
 
+  -- a change of a node in its place is a change in the map that is stored
   pub stored_change : (P : Node → Node → Type 0) (n : ℕ) → (c : IsChangedIn spots next n P) → (p : List (List ℕ)) → number_at m p ≡ Some n → IsStored next count (fin.insert m p c.new)
   stored_change P n c p is =
       let there : fin.get m p ≡ Some c.old.node = node_now (held spots) m s.shown n c.old c.was p is in
@@ -54,6 +57,7 @@ module _ (spots next : List (Option Spot)) (count : ℕ) (m : Nodes) (s : IsStor
         few = omega (arith, s.few, c.long);
       }
 
+  -- a node under its new name is moved in the map that is stored
   pub stored_shift : (p u : List (List ℕ)) (x y : List ℕ) (n d : ℕ) → number_at m (p ++ x ∷ []) ≡ Some n → number_at m u ≡ Some d → CanMove (plain_nodes whole m) (p ++ x ∷ []) (u ++ y ∷ [])
       → ((z : Spot) → held spots n ≡ Some z → IsSetIn spots next n (Some (record { parent = d; name = y; node = z.node }))) → used next ≡ used spots → IsStored next count (moved (p ++ x ∷ []) (u ++ y ∷ []) m)
   stored_shift p u x y n d is dir can put same =
@@ -73,12 +77,15 @@ module _ (spots next : List (Option Spot)) (count : ℕ) (m : Nodes) (s : IsStor
 pub sole : (spots : List (Option Spot)) (count : ℕ) (m n : Nodes) → ((q : List (List ℕ)) → fin.get n q ≡ walk spots (node_in (held spots 0)) q) → IsStored spots count m → n ≡ m
 sole spots count m n by s = only spots m s.shown n by
 
+-- places that show the same map keep the same nodes
 pub still : (spots : List (Option Spot)) (count : ℕ) (m n : Nodes) → ((q : List (List ℕ)) → fin.get n q ≡ walk spots (node_in (held spots 0)) q) → IsStored spots count m → IsStored spots count n
 still spots count m n by s = subst (λ k. IsStored spots count k) (sym (sole spots count m n by s)) s
 
+-- places that are the same keep the same nodes
 pub stored_same : (spots next : List (Option Spot)) (count : ℕ) (m : Nodes) → IsStored spots count m → next ≡ spots → IsStored next count m
 stored_same spots next count m s is = subst (λ l. IsStored l count m) (sym is) s
 
+-- a place at which nothing is kept is no node's number
 pub fresh : (spots : List (Option Spot)) (count : ℕ) (m : Nodes) (place : ℕ) → IsStored spots count m → held spots place ≡ None → (path : List (List ℕ)) → number_at m path ≡ Some place → ⊥
 fresh spots count m place s empty path is =
     let node = node_at m path place is in

@@ -74,20 +74,25 @@ T_is : (b : Bool) → T b → b ≡ true
 T_is true t = refl
 T_is false t = absurd t
 
+-- the entries of a map are in the order of their paths
 pub sorted_map_entries : (m : Nodes) → fin.is_sorted path_cmp (fin.entries m) ≡ true
 sorted_map_entries m = T_is _ (fin.entries_sorted m)
 
+-- an entry of the map is what stands at its path
 pub entry_get : (m : Nodes) (i : ℕ) (p : Path) (node : Node) → slice_get (fin.entries m) i ≡ Some (p, node) → fin.get m p ≡ Some node
 entry_get m i p node is = fin.get-entries m p ∙ entry_found (fin.entries m) i p node (sorted_map_entries m) is
 
+-- what stands at a path is an entry of the map
 pub get_entry : (m : Nodes) (p : Path) (node : Node) → fin.get m p ≡ Some node → (i : ℕ) × (slice_get (fin.entries m) i ≡ Some (p, node))
 get_entry m p node is = found_entry (fin.entries m) p node (sym (fin.get-entries m p) ∙ is)
 
+-- the place of an entry is that of its path
 pub entry_place : (m : Nodes) (i : ℕ) (p : Path) (node : Node) → slice_get (fin.entries m) i ≡ Some (p, node) → place_of p (fin.keys m) ≡ i
 entry_place m i p node is = place_entry (fin.entries m) i p node (sorted_map_entries m) is
 
 -- ---- names and parents
 
+-- the last name of a path with one name more is that name
 pub last_is : (p : Path) (x : List ℕ) → last_name (p ++ x ∷ []) ≡ Some x
 last_is p x = ap (slice_get (p ++ x ∷ [])) (omega (arith, length-append p (x ∷ []))) ∙ at_end p
   where
@@ -95,6 +100,7 @@ last_is p x = ap (slice_get (p ++ x ∷ [])) (omega (arith, length-append p (x �
     at_end [] = refl
     at_end (y ∷ p) = at_end p
 
+-- a node that is not the root is told under its last name
 pub name_of_other : (m : Nodes) (volume name : List ℕ) (n : ℕ) → n ≢ 0 → number_at m [] ≡ Some 0 → ((p : Path) (x : List ℕ) → number_at m (p ++ x ∷ []) ≡ Some n → name ≡ x) → (p : Path) → number_at m p ≡ Some n → name ≡ name_or volume (last_name p)
 name_of_other m volume name n some root named p is = ⊎_elim
     (λ (e : p ≡ []). absurd (some (some_same n 0 (sym is ∙ ap (number_at m) e ∙ root))))
@@ -102,6 +108,7 @@ name_of_other m volume name n some root named p is = ⊎_elim
     named more.0 more.1 (ap (number_at m) (sym more.2) ∙ is) ∙ sym (ap (name_or volume) (ap last_name more.2 ∙ last_is more.0 more.1)))
     (by_last p)
 
+-- the number of the directory of a path is that of what is kept there
 pub above_now : (at : Held) (m : Nodes) → IsShown at m → (n : ℕ) (z : Spot) → at n ≡ Some z → (p : Path) → number_at m p ≡ Some n → number_at m (parent_of p) ≡ Some z.parent
 above_now at m s n z is p there = ⊎_elim
     (λ (e : p ≡ []).
@@ -139,11 +146,13 @@ numbers_at m numbers is place n at = by (slice_get (fin.entries m) place) refl
         (e.0, e.1, f, sym (some_same n e.1.number same))
 
 module _ (m : Nodes) (numbers : List ℕ) (is : numbers ≡ map (λ (e : Path × Node). e.1.number) (fin.entries m)) where
+  -- each number that is listed stands at a path
   pub numbers_there : (place n : ℕ) → IsAt numbers place n → IsThere m n
   numbers_there place n at =
       let found = numbers_at m numbers is place n at in
       (found.0, number_is m found.0 found.1 (entry_get m place found.0 found.1 found.2) ∙ ap (λ k. Some k) found.3)
 
+  -- no number is listed at two places
   pub numbers_apart : OnePath m → AreApart numbers
   numbers_apart one a b n is_a is_b =
       let x = numbers_at m numbers is a n is_a in
@@ -152,6 +161,7 @@ module _ (m : Nodes) (numbers : List ℕ) (is : numbers ≡ map (λ (e : Path ×
       let also = number_is m y.0 y.1 (entry_get m b y.0 y.1 y.2) ∙ ap (λ k. Some k) y.3 in
       sym (entry_place m a x.0 x.1 x.2) ∙ ap (λ p. place_of p (fin.keys m)) (one x.0 y.0 n here also) ∙ entry_place m b y.0 y.1 y.2
 
+  -- each number is told the place of its path among all paths
   pub are_places : OnePath m → (places : List ℕ) → ((place n : ℕ) → IsAt numbers place n → IsAt places n place) → ArePlaces m places
   are_places one places at path n there =
       let node = node_at m path n there in
@@ -159,6 +169,7 @@ module _ (m : Nodes) (numbers : List ℕ) (is : numbers ≡ map (λ (e : Path ×
       let numbered : IsAt numbers found.0 n = ap (λ l. slice_get l found.0) is ∙ slice_get-map (λ (e : Path × Node). e.1.number) (fin.entries m) found.0 ∙ ap (option_map (λ (e : Path × Node). e.1.number)) found.1 ∙ ap (λ k. Some k) node.2 in
       at found.0 n numbered ∙ ap (λ k. Some k) (sym (entry_place m found.0 path node.0 found.1))
 
+  -- one number more tells one node more
   pub told_step : (f : (Path × Node) → told.Node) (nodes : List told.Node) (i n : ℕ) (new : told.Node) → slice_get numbers i ≡ Some n → nodes ≡ map f (take i (fin.entries m))
       → ((path : Path) (node : Node) → fin.get m path ≡ Some node → node.number ≡ n → new ≡ f (path, node)) → nodes ++ new ∷ [] ≡ map f (take (i + 1) (fin.entries m))
   told_step f nodes i n new at so_far tells =
@@ -174,5 +185,6 @@ module _ (m : Nodes) (numbers : List ℕ) (is : numbers ≡ map (λ (e : Path ×
           more : suc i + 1 ≡ suc (i + 1)
           more = omega arith
 
+-- as many numbers are listed as there are nodes
 pub count_most : (m : Nodes) (numbers : List ℕ) → numbers ≡ map (λ (e : Path × Node). e.1.number) (fin.entries m) → length numbers ≡ fin.len m
 count_most m numbers is = ap length is ∙ length-map (fin.entries m) (λ (e : Path × Node). e.1.number) ∙ sym (fin.len-entries m)

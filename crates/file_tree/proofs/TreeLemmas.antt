@@ -44,9 +44,11 @@ use Rattle.file_tree.proofs.FitLemmas.{fit_name, not_bad, fit_insert, fit_same}
 pub after_free : (t : plain.Tree) (call : Call) (at : Moment) → refusal_of t call ≡ None → after t call at ≡ after_done t call at
 after_free t call at free = ap (λ r. after_unless r (after_done t call at) t) free
 
+-- a call that is not refused on a whole tape is refused on no tape, but a read
 pub free_too : (tape : Tape) (t : FileTree) (call : Call) → ((path : List (List ℕ)) (offset count : ℕ) → call ≡ asks.Read path offset count → ⊥) → refusal_of (plain_of whole t) call ≡ None → refusal_of (plain_of tape t) call ≡ None
 free_too tape t call other free = alike tape whole t call other ∙ free
 
+-- trees with the same highest uid and the same nodes are one
 pub same_tree : (a b : plain.Tree) → a.highest ≡ b.highest → a.nodes ≡ b.nodes → a ≡ b
 same_tree a b h n = ap (λ k. record { highest = k; nodes = a.nodes }) h ∙ ap (λ k. record { highest = b.highest; nodes = k }) n
 
@@ -106,12 +108,14 @@ module _ (t : FileTree) (good : IsGood t) (dir : ℕ) (name : List ℕ) (sort : 
   stand : CanStand (plain_nodes whole t.nodes) q (plain.new_node plain_kinds.Dir (t.highest + 1) at)
   stand = can_stand plain_kinds.Dir (plain_of whole t) q at (sym (made_by sort q can.call (plain_of whole t) at can.made_by).0 ∙ can.free) (good.valid whole)
 
+  -- nothing stands at the path of a new node
   pub make_free : fin.get t.nodes q ≡ None
   make_free = none_plain whole t.nodes q stand.free
 
   pub make_space : fin.len t.nodes < most_nodes
   make_space = omega (arith, stand.space, plain_len whole t.nodes)
 
+  -- a node may be put there for which there is memory
   pub can_put : (slots : ℕ) → CanPut (record { nodes = t.nodes; spare = t.spare; slots = slots }) dir name
   can_put slots = record { path = can.path; stands = can.stands; free = make_free; space = make_space; room = can.room }
 
@@ -129,6 +133,7 @@ module _ (t : FileTree) (good : IsGood t) (dir : ℕ) (name : List ℕ) (sort : 
     dir_middle : number_at middle can.path ≡ Some dir
     dir_middle = ap (λ m. number_at m can.path) middle_is ∙ put_numbers t.nodes q node make_free can.path dir can.stands
 
+    -- the making of a node is the plain tree's call
     pub make_plain : IsAfter can.call at t next
     make_plain tape =
         let by = made_by sort q can.call (plain_of tape t) at can.made_by in
@@ -141,9 +146,11 @@ module _ (t : FileTree) (good : IsGood t) (dir : ℕ) (name : List ℕ) (sort : 
         same_tree (plain_of tape next) (with_new (plain_new sort) (plain_of tape t) q at) highest nodes
         ∙ sym (after_free (plain_of tape t) can.call at (free_too tape t can.call by.2 can.free) ∙ by.1)
 
+    -- all numbers stand where they stood after a node is made
     pub make_numbers : NumbersCome (λ p. p) t next
     make_numbers path n stands = change_numbers middle next.nodes dir _ ch path ∙ ap (λ m. number_at m path) middle_is ∙ put_numbers t.nodes q node make_free path n stands
 
+    -- the new node has its number under its name in its directory
     pub make_number : (path : List (List ℕ)) → StandsAt t path dir → StandsAt next (path ++ name ∷ []) number
     make_number path stands =
         change_numbers middle next.nodes dir _ ch (path ++ name ∷ []) ∙ ap (λ m. number_at m (path ++ name ∷ [])) (put path stands)
@@ -157,12 +164,14 @@ module _ (t : FileTree) (good : IsGood t) (dir : ℕ) (name : List ℕ) (sort : 
     made_back n f h =
         put_back t.nodes q node make_free n f (subst (λ m. HasLaid m n f) middle_is ((change_lies_both middle next.nodes dir _ ch (ap (λ (n : Node). n.kind) ch.changed) n f).1 h))
 
+    -- all other files lie as they did after a node is made
     pub make_lies : OthersLie number t next
     make_lies n apart f = (
       λ h. (change_lies_both middle next.nodes dir _ ch (ap (λ (n : Node). n.kind) ch.changed) n f).0 (subst (λ m. HasLaid m n f) (sym middle_is) (put_lies t.nodes q node make_free n f h)),
       λ h. ⊎_elim (λ was. was) (λ (new : (node.number ≡ n) × (room : Room) × (node.kind ≡ kinds.File room) × (room.laid ≡ f)). absurd (apart (sym new.0 ∙ numbered))) (made_back n f h),
     )
 
+    -- a new file has its number and no bytes
     pub make_file : sort ≡ sorts.File → HasLaid next.nodes number (record { block_size = t.block_size; length = 0; extents = [] })
     make_file file =
         let kind_is : IsNewKind t.block_size sorts.File kind = subst (λ s. IsNewKind t.block_size s kind) file new in
@@ -208,6 +217,7 @@ module _ (t : FileTree) (good : IsGood t) (dir : ℕ) (name : List ℕ) (sort : 
         by sorts.File k e = let wrong : kinds.File k.0 ≡ kinds.Link text = sym k.1 ∙ e in cc
         by sorts.Link dir_is e = let wrong : kinds.Dir ≡ kinds.Link text = sym dir_is ∙ e in cc
 
+    -- a new node adds no block
     pub make_adds : AddsNoBlock t next
     make_adds part pos h = ⊎_elim
         (λ was. record { number = h.number; laid = h.laid; file = was; block = h.block })
@@ -215,6 +225,7 @@ module _ (t : FileTree) (good : IsGood t) (dir : ℕ) (name : List ℕ) (sort : 
         absurd (subst (λ f. FileStandsIn f part pos) (sym made.3 ∙ new_kind_is made.1 made.2) h.block))
         (made_back h.number h.laid h.file)
 
+    -- a new node leaves a good tree good
     pub make_good : next.name ≡ t.name → IsUtf8 name → IsGood next
     make_good name_is utf8 = good_after t next can.call at good size name_is make_plain files
         (change_differ middle next.nodes dir _ ch (subst NumbersDiffer (sym middle_is) (put_differ t.nodes q node make_free good.differ (λ path stands. fresh path (stands ∙ ap (λ n. Some n) numbered)))))
@@ -228,5 +239,6 @@ module _ (t : FileTree) (good : IsGood t) (dir : ℕ) (name : List ℕ) (sort : 
         files : AreFilesOf t.block_size next.nodes
         files = change_files_same middle next.nodes dir _ ch t.block_size (ap (λ (n : Node). n.kind) ch.changed) (subst (λ m. AreFilesOf t.block_size m) (sym middle_is) (insert_files t.block_size t.nodes q node good.files new_files))
 
+-- the same tree under another name makes the same call
 pub same_call : (t u : FileTree) (dir : ℕ) (name : List ℕ) (sort : Sort) (e : t ≡ u) (own : CanMake u dir name sort) → (subst (λ (t : FileTree). CanMake t dir name sort) (sym e) own).call ≡ own.call
 same_call t u dir name sort e own = refl

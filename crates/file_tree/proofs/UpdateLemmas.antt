@@ -73,6 +73,7 @@ module _ (at next : Held) (m : Nodes) (s : IsShown at m) where
         (λ other. s.behind u y n (sym (get_other m q (u ++ y ∷ []) node other) ∙ is))
         (is_or_not q (u ++ y ∷ []))
 
+    -- a new node is in the map that is seen
     pub inserted : IsShown next new
     inserted = record {
       root = numbers [] 0 s.root;
@@ -124,6 +125,7 @@ module _ (at next : Held) (m : Nodes) (s : IsShown at m) where
         let same : x ≡ z = same_spot x z (sym held ∙ is) in
         ap (λ (w : Node). next w.number) (sym e) ∙ ap next number ∙ put.here ∙ ap (λ (w : Spot). Some (spot w.parent w.name node)) same ∙ ap (λ w. Some (spot z.parent z.name w)) e
 
+    -- a changed node is changed in the map that is seen
     pub updated : IsShown next changed
     updated = record {
       root = same_numbers [] ∙ s.root;
@@ -184,6 +186,7 @@ module _ (at next : Held) (m : Nodes) (s : IsShown at m) where
     kept_left : (u : List (List ℕ)) (n : Node) → (u ≡ spot_path → ⊥) → fin.get m u ≡ Some n → next n.number ≡ at n.number
     kept_left u n other is = put.others n.number (λ e. other (one_path at m s u spot_path n node is there e))
 
+    -- a removed node is gone from the map that is seen
     pub removed : IsShown next less
     removed = record {
       root = ap (option_map (λ (n : Node). n.number)) (gone_other m spot_path [] (λ e. no_name p x (sym e))) ∙ s.root;
@@ -215,6 +218,7 @@ module _ (at next : Held) (m : Nodes) (s : IsShown at m) where
           (cases_eq n node.number);
     }
 
+-- what stands at each path after a move: what came there, nothing where it left, or what was there
 pub get_moved : (from to : List (List ℕ)) (m : Nodes) (q : List (List ℕ)) → ((x : List (List ℕ)) → is_at_or_below to x ≡ true → fin.get m x ≡ None)
     → fin.get (moved from to m) q ≡ cond (is_at_or_below to q) (fin.get m (back from to q)) (cond (is_at_or_below from q) None (fin.get m q))
 get_moved from to m q free =
@@ -225,11 +229,13 @@ get_moved from to m q free =
 
 -- a node, with all that lies below it, at another path
 module _ (m : Nodes) (from to : List (List ℕ)) (free : (x : List (List ℕ)) → is_at_or_below to x ≡ true → fin.get m x ≡ None) where
+  -- what is in neither of the two places of a move stays
   pub stay : (q : List (List ℕ)) → is_at_or_below to q ≡ false → is_at_or_below from q ≡ false → fin.get (moved from to m) q ≡ fin.get m q
   stay q away other =
       get_moved from to m q free ∙ ap (λ b. cond b (fin.get m (back from to q)) (cond (is_at_or_below from q) None (fin.get m q))) away
       ∙ ap (λ b. cond b None (fin.get m q)) other
 
+  -- what is at the old place of a move comes to the new one
   pub come : (r : List (List ℕ)) → fin.get (moved from to m) (to ++ r) ≡ fin.get m (from ++ r)
   come r =
       get_moved from to m (to ++ r) free
@@ -250,11 +256,13 @@ module _ (m : Nodes) (from to : List (List ℕ)) (free : (x : List (List ℕ)) �
     ] refl
   ] refl
 
+-- what is not above a path is not above its directory
 pub above_one : (d u : List (List ℕ)) (y : List ℕ) → is_at_or_below d (u ++ y ∷ []) ≡ false → is_at_or_below d u ≡ false
 above_one d u y other = not_true (is_at_or_below d u) (λ e.
     let more : u ++ y ∷ [] ≡ d ++ (drop (length d) u ++ y ∷ []) = ap (λ z. z ++ y ∷ []) (below_split d u e) ∙ append_assoc d (drop (length d) u) (y ∷ []) in
     let wrong : true ≡ false = sym (below_join d (drop (length d) u ++ y ∷ [])) ∙ ap (is_at_or_below d) (sym more) ∙ other in cc)
 
+-- a path is not below one that is longer
 pub shorter_not : (p q : List (List ℕ)) → length q < length p → is_at_or_below p q ≡ false
 shorter_not p q lt = not_true (is_at_or_below p q) (λ e. absurd (omega (arith, below_length p q e)))
 
@@ -354,6 +362,7 @@ module _ (at next : Held) (m : Nodes) (s : IsShown at m) (p u : List (List ℕ))
         number_stays q (not_true (is_at_or_below to q) (λ e. unlike (fin.get m q) node.0 (free q e) node.1)) other ∙ is
   ] refl
 
+  -- a node under its new name is moved in the map that is seen, with all below it
   pub moves : IsShown next after
   moves = record {
     root = number_stays [] root_away root_other ∙ s.root;

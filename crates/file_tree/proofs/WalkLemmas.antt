@@ -15,6 +15,7 @@ use Rattle.file_tree.specs.Seen.{held, IsShown, is_child, child, node_in, walk, 
 use Rattle.file_tree.proofs.PathLemmas.{same_nodes, number_is, node_at}
 use Rattle.file_tree.proofs.ShownLemmas.{spot, dir_of, kept_at, stands, stands_in}
 
+-- the test of being the same name says whether two are the same
 pub name_Decides : (x y : List ℕ) → Decides (pointwise nat_eq x y) (x ≡ y)
 name_Decides x y = slice_eq-Decides unsigned_Decides x y _ refl
 
@@ -79,6 +80,7 @@ module _ (spots : List (Option Spot)) (m : Nodes) (s : IsShown (held spots) m) w
       by None None e f = f ∙ sym (ap node_in e)
       by None (Some n) e f = absurd (no_child spots dir.number x n.number (spot dir.number x n) e (kept_at (held spots) m s p x n dir f there) (says_child dir.number x (spot dir.number x n) (s.behind p x n f) refl refl))
 
+  -- where nothing stands at a path, nothing stands below it
   pub none_past : (p q : List (List ℕ)) → fin.get m p ≡ None → fin.get m (p ++ q) ≡ None
   none_past p [] none = ap (fin.get m) (append-nil p) ∙ none
   none_past p (x ∷ q) none = ap (fin.get m) (sym (snoc p q x)) ∙ none_past (p ++ x ∷ []) q (by (fin.get m (p ++ x ∷ [])) refl)
@@ -100,6 +102,7 @@ module _ (spots : List (Option Spot)) (m : Nodes) (s : IsShown (held spots) m) w
       let root = node_at m [] 0 s.root in
       walk_from [] q root.0 root.1 ∙ ap (λ o. walk spots (node_in o) q) (sym (s.rooted root.0 root.1))
 
+  -- the map that is kept is the one that paths lead through
   pub seen : Seen spots
   seen = (m, walks)
 

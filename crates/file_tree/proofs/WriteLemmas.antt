@@ -75,9 +75,11 @@ module _ (t next : FileTree) (good : IsGood t) (file : ℕ) (at : Moment) (room 
       let e : done.room ≡ r = one_room done.room r (sym (ap (λ (n : Node). n.kind) done.is) ∙ is) in
       subst (λ (r : Room). IsFileOf t.block_size r.laid) e (record { size = ap (λ (f : Laid). f.block_size) done.lies ∙ same_size; lies = subst IsLaid (sym done.lies) done.good })
 
+  -- all numbers stand where they did after a file is laid anew
   pub relaid_numbers : (path : List (List ℕ)) (n : ℕ) → StandsAt t path n → StandsAt next path n
   relaid_numbers path n stands = change_numbers t.nodes next.nodes file _ ch path ∙ stands
 
+  -- all other files lie as they did after one is laid anew
   pub relaid_others : OthersLie file t next
   relaid_others k apart f = change_others_both t.nodes next.nodes file _ ch k f apart
 
@@ -90,6 +92,7 @@ module _ (t next : FileTree) (good : IsGood t) (file : ℕ) (at : Moment) (room 
   relaid_fit : AreFit next.nodes
   relaid_fit = fit_change t.nodes next.nodes file _ ch good.fit (λ text link. let wrong : kinds.File done.room ≡ kinds.Link text = sym (ap (λ (n : Node). n.kind) done.is) ∙ link in cc) (ap (λ (n : Node). n.keys) done.is)
 
+  -- a file that is laid anew lies as the change says
   pub relaid_lies : (f : Laid) → HasLaid t.nodes file f → HasLaid next.nodes file (change f)
   relaid_lies f has =
       let path_is : has.path ≡ ch.path = ch.only has.path (number_is t.nodes has.path has.node has.there ∙ ap (λ n. Some n) has.is) in
@@ -136,20 +139,24 @@ module _ (t next : FileTree) (good : IsGood t) (file : ℕ) (at : Moment) (room 
   written : (tape : Tape) → file_cells tape (overlaid room.laid new) ≡ cells.written (file_cells tape room.laid) new.offset (cells_of tape t.block_size new)
   written tape = overlays_write tape room.laid new was.lies ∙ ap (λ n. cells.written (file_cells tape room.laid) new.offset (cells_of tape n new)) was.size
 
+  -- an overlay writes the new extent's bytes into the file
   pub overlay_writes : IsWritten file new at t next
   overlay_writes tape path stands = relaid_plain t next good file at room h (λ laid. overlaid laid new) ch highest size tape (λ c. cells.written c new.offset (cells_of tape t.block_size new)) (written tape) path stands
 
+  -- an overlay adds only the new extent's blocks
   pub overlay_adds : AddsBlocksOf new t next
   overlay_adds = adds_overlay t next file room.laid new (relaid_differ t next good file at room h (λ laid. overlaid laid new) ch highest size) (relaid_others t next good file at room h (λ laid. overlaid laid new) ch highest size)
       (was_laid t next good file at room h (λ laid. overlaid laid new) ch highest size) was.lies was.size
       (relaid_lies t next good file at room h (λ laid. overlaid laid new) ch highest size room.laid (was_laid t next good file at room h (λ laid. overlaid laid new) ch highest size))
 
+  -- an overlay leaves a good tree good
   pub overlay_good : next.name ≡ t.name → IsNear t.block_size new → IsGood next
   overlay_good name near = relaid_good t next good file at room h (λ laid. overlaid laid new) ch highest size (λ tape. (λ c. cells.written c new.offset (cells_of tape t.block_size new), written tape)) was.size name
       (λ part pos k. ⊎_elim (λ old. good.near part pos old) (λ this. near part pos this) (overlay_adds part pos k))
 
 -- ---- a length
 
+-- a file has as many cells as its length
 pub long_as : (tape : Tape) (f : Laid) → length (file_cells tape f) ≡ f.length
 long_as tape f = length-map-range_with_len (cell_at tape f.block_size f.extents) 0 f.length
 
@@ -176,6 +183,7 @@ module _ (t next : FileTree) (good : IsGood t) (file : ℕ) (at : Moment) (room 
   truncated : (tape : Tape) → file_cells tape (resized room.laid n) ≡ cells.resized (file_cells tape room.laid) n
   truncated tape = lengths_truncate tape room.laid n before_file.lies
 
+  -- a new length truncates the file
   pub length_truncates : (present : ℕ) → ((path : List (List ℕ)) → StandsAt t path file → IsLongAt t.nodes path present) → n ≢ present → IsTruncated file n at t next
   length_truncates present long differ tape path stands =
       relaid_plain t next good file at room h (λ laid. resized laid n) ch highest size tape (λ c. cells.resized c n) (truncated tape) path stands
@@ -185,11 +193,13 @@ module _ (t next : FileTree) (good : IsGood t) (file : ℕ) (at : Moment) (room 
       eq_false : (a b : ℕ) → a ≢ b → eqb a b ≡ false
       eq_false a b e = grind (arith, nat_tests)
 
+  -- a new length adds no block
   pub length_adds : AddsNoBlock t next
   length_adds = adds_length t next file n room.laid (relaid_differ t next good file at room h (λ laid. resized laid n) ch highest size) (relaid_others t next good file at room h (λ laid. resized laid n) ch highest size)
       (was_laid t next good file at room h (λ laid. resized laid n) ch highest size)
       (relaid_lies t next good file at room h (λ laid. resized laid n) ch highest size room.laid (was_laid t next good file at room h (λ laid. resized laid n) ch highest size))
 
+  -- a new length leaves a good tree good
   pub length_good : next.name ≡ t.name → IsGood next
   length_good name = relaid_good t next good file at room h (λ laid. resized laid n) ch highest size (λ tape. (λ c. cells.resized c n, truncated tape)) before_file.size name (λ part pos k. good.near part pos (length_adds part pos k))
 
@@ -227,9 +237,11 @@ module _ (t next : FileTree) (good : IsGood t) (file : ℕ) (Q : Node → Type 0
   same_nodes_plain tape = ap (plain_nodes tape) ch.now ∙ plain_insert tape t.nodes ch.path ch.new ∙ ap (fin.insert (plain_nodes tape t.nodes) ch.path) (roomier_plain tape ch.old ch.new ch.changed.0)
       ∙ inserted_same (plain_nodes tape t.nodes) ch.path (plain_node_of tape ch.old) (plain_get tape t.nodes ch.path ∙ ap (option_map (plain_node_of tape)) ch.there)
 
+  -- memory for more of a node leaves the plain tree as it was
   pub room_plain : (tape : Tape) → plain_of tape next ≡ plain_of tape t
   room_plain tape = same_tree (plain_of tape next) (plain_of tape t) highest (same_nodes_plain tape)
 
+  -- memory for more of a node leaves the numbers where they stood
   pub room_numbers : (path : List (List ℕ)) (n : ℕ) → StandsAt t path n → StandsAt next path n
   room_numbers path n stands = change_numbers t.nodes next.nodes file _ ch path ∙ stands
 
@@ -299,6 +311,7 @@ module _ (t next : FileTree) (good : IsGood t) (file : ℕ) (Q : Node → Type 0
       })
       (is_or_not ch.path h.path)
 
+  -- memory for more of a node leaves all files as they lay
   pub room_lies : AllLie t next
   room_lies k f = (room_forth k f, room_back k f)
 
@@ -323,6 +336,7 @@ module _ (t next : FileTree) (good : IsGood t) (file : ℕ) (Q : Node → Type 0
   pub room_adds : AddsNoBlock t next
   room_adds = all_lie_adds t next room_lies
 
+  -- memory for more of a node leaves a good tree good
   pub room_good : next.name ≡ t.name → IsGood next
   room_good name = record {
     some_block = subst (λ n. 1 ≤ n) (sym size) good.some_block;

@@ -51,12 +51,14 @@ four true false c d e = absurd (cc e)
 four true true false d e = absurd (cc e)
 four true true true false e = absurd (cc e)
 
+-- what passes the check of a format is fine for texts that can be read
 pub fine : (spec : FormatSpec) → spec_fault spec ≡ None → IsFine spec
 fine spec none =
     let all = four (list_all is_capital spec.volume) (is_in_range 4096 1048576 spec.block) (is_volume_name spec.name)
     (is_policy spec.policy) none in
     record { volume = all.0; block = all.1; name = all.2; policy = all.3 }
 
+-- the index of an empty volume tells the values that its text is written from
 pub tells : (part : Part) (spec : FormatSpec) → Tells (index_on part spec) (told_on part spec)
 tells part spec = record { volume = refl; nodes = refl }
 
@@ -141,10 +143,12 @@ spaces (suc n) = All-cons (λ byte. is_printable byte ≡ true) 32 (replicate n 
 pub record_fits : (spec : FormatSpec) → spec_fault spec ≡ None → IsVol1 (record_for spec)
 record_fits spec none = record { volume = printables spec.volume (fine spec none).volume; owner = spaces 14 }
 
+-- the letter of a partition is one from `a` to `z`
 pub letter_fits : (part : Part) → (97 ≤ letter part) × (letter part ≤ 122)
 letter_fits Ip = (omega arith, omega arith)
 letter_fits Dp = (omega arith, omega arith)
 
+-- the label of a checked format is a label as the standard has it
 pub label_fits : (part : Part) (spec : FormatSpec) → spec_fault spec ≡ None → IsLabel (label_of (label_on part spec))
 unfolding chars
 label_fits part spec none = record {
@@ -162,25 +166,30 @@ label_size part spec none =
     let digits = length-decimal-le 7 spec.block (omega arith) (omega (arith, range.1)) (omega (arith, range.1)) in
     (omega (arith, label_length part spec), omega (arith, label_length part spec, digits))
 
+-- the block size of a checked format is 4,096 to 1,048,576 bytes
 pub some_block : (spec : FormatSpec) → spec_fault spec ≡ None → (4096 ≤ spec.block) × (spec.block ≤ 1048576)
 some_block spec none = within 4096 1048576 spec.block (fine spec none).block
 
+-- one more text that is good UTF-8 leaves all of them good
 pub texts_more : (texts : List (List ℕ)) (text : List ℕ) → AllByRecursion IsUtf8 texts → IsUtf8 text
     → AllByRecursion IsUtf8 (texts ++ text ∷ [])
 texts_more [] text all is = (is, tt)
 texts_more (t ∷ texts) text all is = (all.0, texts_more texts text all.1 is)
 
+-- the label of the index partition fits in one block
 pub ip_one_block : (spec : FormatSpec) (texts : kept.Texts) → spec_fault spec ≡ None → AreTextsOf spec texts
     → IsOneBlock texts.ip_label
 ip_one_block spec texts none are =
     let size = label_size Ip spec none in
     subst (λ (l : List ℕ). IsOneBlock l) (sym are.ip_label) (record { some = size.0; size = size.1 })
 
+-- the label of the data partition fits in one block
 pub dp_one_block : (spec : FormatSpec) (texts : kept.Texts) → spec_fault spec ≡ None → AreTextsOf spec texts
     → IsOneBlock texts.dp_label
 dp_one_block spec texts none are =
     let size = label_size Dp spec none in
     subst (λ (l : List ℕ). IsOneBlock l) (sym are.dp_label) (record { some = size.0; size = size.1 })
 
+-- a name, a policy and an identifier that are good make the values of a format good
 pub values_of : (spec : FormatSpec) → spec.uuid < 2 ^ 128 → IsUtf8 spec.name → HasTexts spec.policy → IsSpec spec
 values_of spec small text texts = record { uuid = small; name = text; patterns = texts }

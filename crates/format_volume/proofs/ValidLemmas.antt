@@ -159,6 +159,7 @@ files_alone root dir = record {
 
 -- ---- the index
 
+-- the index of an empty volume is valid on either partition
 pub valid : (part : Part) (spec : FormatSpec) → spec_fault spec ≡ None → IsSpec spec → IsValid (index_on part spec)
 valid part spec none values = record {
   formed = record {

@@ -73,6 +73,7 @@ module _ {D : Type 0} (drive : Ghosts D) where
       (ap (λ (v : ℕ). note_for spec v) t.2.vcr)
       (ap (λ (v : ℕ). note_for spec v) t.2.vcr))
 
+  -- the bytes of both notes of a new volume are notes with their values
   pub volume_notes : (spec : FormatSpec) (a b c : D) → WritesBoth drive 0 (items_on Ip spec) (items_on Dp spec) a b
       → ((d : Cartridge) → drive.held b ≡ Some d
       → (drive.held c ≡ Some (with_notes spec d)) × IsNote (note_of (noted spec d.vcr)) (noted spec d.vcr))

@@ -100,6 +100,7 @@ module _ {D : Type 0} (drive : Ghosts D) where
   pub goes_still : (a : D) → Goes drive a a
   goes_still a = record { untold = λ none. none; limits = refl; later = omega arith }
 
+  -- where a drive goes on twice, it goes on from the first state to the last
   pub then_goes : (a b c : D) → Goes drive a b → Goes drive b c → Goes drive a c
   then_goes a b c first second = record {
     untold = λ none. second.untold (first.untold none);
@@ -127,6 +128,7 @@ module _ {D : Type 0} (drive : Ghosts D) where
         subst (λ (l : List Item). Writes drive part pos l start old) (sym (append-nil more)) writes;
   }
 
+  -- once one more block is written, one more block of the document stands written
   pub putting_goes_on : (size : ℕ) (doc : List ℕ) (done : ℕ) (old now then : D) (at : Place) (piece : List ℕ)
       → drive.head old ≡ Some at → Putting size doc done old now → done < div_ceil (length doc) size
       → slice_get (blocks_of size doc) done ≡ Some piece
@@ -151,6 +153,7 @@ module _ {D : Type 0} (drive : Ghosts D) where
         (then_written part pos (more ++ taken) (Block piece ∷ []) start now then before one);
   }
 
+  -- once every block is written, the whole document stands behind what was there
   pub putting_ends : (size : ℕ) (doc : List ℕ) (done : ℕ) (old now : D) → 1 ≤ size
       → Putting size doc done old now → div_ceil (length doc) size ≤ done
       → (part : Part) (pos : ℕ) (more : List Item) (start : D) → Writes drive part pos more start old

@@ -239,10 +239,12 @@ module _ (c : Cartridge) (found : Found c) where
       (subst (λ (q : Construct). IsLink found.labels.ip c q b.older (last_generation None newer) i) (sym heads)
       (subst (λ (ks : List Construct). IsLink found.labels.ip c k ks (last_generation None newer) i) (sym tails) link))
 
+  -- a cartridge has one whole chain at most
   pub one_chain : (links others : List Index) → IsChain c found links → IsChain c found others → links ≡ others
   one_chain links others a b =
       same_links found.labels.ip c None (indexes_of c.dp) links others a.links_are b.links_are (chain_all links a) (chain_all others b)
 
+  -- a chain breaks at one index and for one reason at most
   pub one_end : (newer others : List Index) (block other : ℕ) (why reason : BreakWhy) → IsBrokenBehind c found newer block why
       → IsBrokenBehind c found others other reason → (newer ≡ others) × (block ≡ other) × (why ≡ reason)
   one_end newer others block other why reason a b =
@@ -259,12 +261,14 @@ module _ (c : Cartridge) (found : Found c) where
         one_break found.labels.ip c a.k a.older (last_generation None newer) why reason a.fails fails,
       )
 
+  -- a chain that is whole doesn't break
   pub whole_or_broken : (links newer : List Index) (block : ℕ) (why : BreakWhy) → IsChain c found links → IsBrokenBehind c found newer block why → ⊥
   whole_or_broken links newer block why a b =
       let same = same_links found.labels.ip c None (indexes_of c.dp) links newer a.links_are b.links_are (chain_all links a) (broken_all newer block why b) in
       let none : [] ≡ b.k ∷ b.older = sym a.whole ∙ ap (behind (indexes_of c.dp)) same ∙ b.stands in
       cc none
 
+  -- a chain is whole or breaks somewhere
   pub some_end : ((links : List Index) × IsChain c found links)
       ⊎ ((newer : List Index) × (block : ℕ) × (why : BreakWhy) × IsBrokenBehind c found newer block why)
   some_end = ended (walked found.labels.ip c None (indexes_of c.dp))
@@ -279,6 +283,7 @@ module _ (c : Cartridge) (found : Found c) where
 
   -- ---- of a generation
 
+  -- a generation that the way leads to isn't lacking
   pub has_or_lacks : (g : ℕ) (newer : List Index) (index : Index) → IsWayTo c found g newer index → index.generation ≡ g
       → LacksGeneration c found g → ⊥
   has_or_lacks g newer index way is (inl lacks) =
@@ -287,12 +292,14 @@ module _ (c : Cartridge) (found : Found c) where
   has_or_lacks g newer index way is (inr lacks) =
       not_all_newer found.labels.ip c g None (indexes_of c.dp) newer index lacks.0 way.links_are way.is_not lacks.1.links_are (chain_all lacks.0 lacks.1) lacks.2
 
+  -- a way that leads to a generation doesn't break before it
   pub way_or_broken : (g : ℕ) (newer : List Index) (index : Index) (block : ℕ) (why : BreakWhy) → IsWayTo c found g newer index
       → IsBrokenOnWay c found g block why → ⊥
   way_or_broken g newer index block why way broken =
       not_all_newer found.labels.ip c g None (indexes_of c.dp) newer index broken.0 way.links_are way.is_not broken.1.links_are
       (broken_all broken.0 block why broken.1) broken.2
 
+  -- a way without a generation doesn't break before its end
   pub lacks_or_broken : (g : ℕ) (block : ℕ) (why : BreakWhy) → LacksGeneration c found g → IsBrokenOnWay c found g block why → ⊥
   lacks_or_broken g block why (inl lacks) broken = way_or_broken g lacks.0 lacks.1 block why lacks.2 broken
   lacks_or_broken g block why (inr lacks) broken = whole_or_broken lacks.0 broken.0 block why lacks.1 broken.1
@@ -315,6 +322,7 @@ module _ (c : Cartridge) (found : Found c) where
   there g newer index a young old (inr apart) =
       inr (inl (inl (newer, index, record { links_are = a; are_newer = young; is_not = old }, less g index old apart)))
 
+  -- of each generation it can be said whether it is there, is lacking, or the way to it breaks
   pub some_answer : (g : ℕ) → Answer g
   some_answer g = answered some_end
     where

@@ -39,6 +39,7 @@ next_place places i d lt =
     ap (λ n. take n places) on ∙ take-suc places i d lt
 
 module _ {D : Type 0} (drive : Ghosts D) where
+  -- one block that is read as it stands is put into the reading
   pub fetched_one : (place : Place) (a : D) (block : List ℕ) (old new : Gathering) → IsFilledBy place block old new
       → ((c : Cartridge) → drive.held a ≡ Some c → IsBlock (tape_of c) place block) → HasBlocks drive (place ∷ []) a old new
   fetched_one place a block old new fills is = record {
@@ -76,6 +77,7 @@ module _ {D : Type 0} (drive : Ghosts D) where
         (then_looks drive (2 * length front * drive.MOST) (2 * drive.MOST) a b d first.looks looks));
   }
 
+  -- one block more is put into the reading behind those before
   pub fetched_next : (places : List Place) (i : ℕ) (p : Place) (a b d : D) (start old new : Gathering) → i < length places
       → AreFetched drive (take i places) a b start old → HasBlocks drive (get_or places i p ∷ []) b old new → drive.faults b ≤ drive.faults d
       → Looks drive (2 * drive.MOST) b d → AreFetched drive (take (i + 1) places) a d start new
@@ -139,6 +141,7 @@ module _ {D : Type 0} (drive : Ghosts D) (a b : D) where
         looks = subst (λ (ps : List Place). Looks drive (2 * length ps * drive.MOST) a b) all fetched.looks;
       }
 
+  -- an answer for which no block is needed is one of a read of the drive
   pub not_read : (n : ℕ) (wanted : Cartridge → Answer) (r : Answer) → drive.commands a ≤ 2 ^ 64 - 1 → ((c : Cartridge) → r ≡ wanted c)
       → IsReadBy drive n wanted a a (Ok r)
   not_read n wanted r few is = record {

@@ -26,6 +26,7 @@ module _ (label : Label) (c : Cartridge) (k : readings.Construct) (ks : List rea
   mark_is : place.mark ≡ k.mark
   mark_is = ap (λ (p : Construct). p.mark) (sym there)
 
+  -- an index whose tests all pass is a link of the chain
   pub all_before : (index : Index) → IsOfVolume label k index → PointsOnDp label k ks index → IsOlder index after
       → AllByRecursion (FitsNode label end_ip place.mark) index.nodes → IsLink label c k ks after index
   all_before index of points older within = record {
@@ -37,6 +38,7 @@ module _ (label : Label) (c : Cartridge) (k : readings.Construct) (ks : List rea
         (subst (λ (n : ℕ). AllByRecursion (FitsNode label n place.mark) index.nodes) end_is within);
   }
 
+  -- an index whose file has an extent that ends too late breaks the chain there
   pub one_behind : (index : Index) (uid : ℕ) → IsOfVolume label k index → PointsOnDp label k ks index → IsOlder index after
       → IsFirstOutside label end_ip place.mark index.nodes uid → Breaks label c k ks after (breaks.Extent uid)
   one_behind index uid of points older outside = (
@@ -57,6 +59,7 @@ breaks_by label c k ks after at (errors.WrongVolume p) why is none =
     let same : breaks.Volume ≡ why = cc is in subst (Breaks label c k ks after) same none.1
 breaks_by label c k ks after at e why is none = absurd (cc is)
 
+-- an end of a reading that isn't the text's fault says nothing of the cartridge
 pub free_by : (c : Cartridge) (text : List ℕ) (uuid : ℕ) (at : Place) (e : MountErr) → why_in e ≡ None → IsNoText text uuid at e → IsFree e c
 free_by c text uuid at (errors.Drive counts) is none = tt
 free_by c text uuid at errors.NoMemory is none = tt

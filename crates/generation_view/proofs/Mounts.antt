@@ -29,17 +29,20 @@ known_of c s places is same = record {
 
 -- ---- what is told of a walk
 
+-- a walk that came to the end tells the whole chain
 pub whole_told : (c : Cartridge) (walk : Walked) (told : List Generation) → walk ≡ walks.Whole told → (found : Found c) × TellsWalk c found walk
     → TellsChain told c
 whole_told c walk told is t =
     let s = subst (λ (w : Walked). TellsWalk c t.0 w) is t.1 in
     record { found = t.0; links = s.0; chain = s.1; told_is = s.2 }
 
+-- a walk that broke tells where and why the chain breaks
 pub broken_told : (c : Cartridge) (walk : Walked) (block : ℕ) (why : BreakWhy) → walk ≡ walks.Broken block why
     → (found : Found c) × TellsWalk c found walk → RefusesChain (view_errors.Broken (record { part = Dp; pos = block }) why) c
 broken_told c walk block why is t =
     let s = subst (λ (w : Walked). TellsWalk c t.0 w) is t.1 in (refl, (t.0, s.0, s.1))
 
+-- a cartridge that doesn't mount has no chain to tell
 pub refuses_chain : (c : Cartridge) (e : MountErr) → Blames e c → RefusesChain (refusal e) c
 refuses_chain c (errors.Drive counts) blames = tt
 refuses_chain c errors.NoMemory blames = tt

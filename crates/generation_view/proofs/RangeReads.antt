@@ -81,9 +81,11 @@ module _ (t : FileTree) (file offset count : ℕ) (pieces : List Piece) (p : Are
       (subst (λ (ps : List Piece). AllByRecursion (StandsWhere (FileStandsIn p.room.laid)) ps) (sym p.are)
       (plan_stands p.room.laid offset (min count (p.room.laid.length - offset)) p.laid.lies)))
 
+  -- the blocks of a range lie before the capacities of the drive
   pub plan_room : (told : Option Cartridge) (limits : Limits) → CanBeRead told limits t → AreBelow (capacities limits) (places_in pieces)
   plan_room told limits can = plan_below (capacities limits) can.room
 
+  -- the blocks of a range lie before the ends of the cartridge that was told
   pub plan_there : (told : Option Cartridge) (limits : Limits) → CanBeRead told limits t → IfSome told (λ c. AreBelow (item_ends c) (places_in pieces))
   plan_there told limits can = by told can.there
     where
@@ -173,6 +175,7 @@ at_read t path slice offset count number same is =
     subst (λ p. IsChecked (no_file (plain_of whole t).nodes p) t p (Ok number)) same is in
     (whole_read t path offset count ∙ here.0, here.1)
 
+-- a read that isn't refused is of a file, with its extents
 pub file_read : (t : FileTree) (path : Path) (offset count number : ℕ) → refusal_of (plain_of whole t) (asks.Read path offset count) ≡ None → StandsAt t path number
     → (room : Room) × HasExtents t.nodes number room
 file_read t path offset count number free stands = file_there t path number stands (sym (whole_read t path offset count) ∙ free)
@@ -185,6 +188,7 @@ refused_whole t path offset count r is tape =
     (ap (λ o. first_of (o ∷ damaged (plain_of tape t).nodes path offset count ∷ []))
     (no_file_alike tape whole t.nodes path ∙ sym (whole_read t path offset count) ∙ is))
 
+-- a read that is refused is answered with that refusal
 pub refused_read : (t : FileTree) (path slice : Path) (offset count : ℕ) (r : Refusal) → slice ≡ path → IsChecked (no_file (plain_of whole t).nodes slice) t slice (Err r)
     → (tape : Tape) → answers.Refused r ≡ answer (plain_of tape t) (asks.Read path offset count)
 refused_read t path slice offset count r same is tape =

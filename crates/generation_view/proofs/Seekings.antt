@@ -90,6 +90,7 @@ below_more one other t le below part pos stands = omega (arith, le part, below p
 
 -- ---- the index at the end of the way can be made a tree
 
+-- the index to which a sound way leads can be made a tree
 pub can_be_tree : (limits : Limits) (m : Mounted) (way : Way) → IsLimits limits → IsSoundMount limits m → IsSoundWay m.label m.end_ip limits.cap_dp way → CanBeTree m.label way
 can_be_tree limits m (ways.Link block index) range sound is =
     fits_can_mount m.label m.end_ip is.mark index sound.spelled sound.letters is.sound.valid (omega (arith, sound.ip_end.1, range.ip_most))
@@ -165,6 +166,7 @@ module _ (c : Cartridge) (found : Found c) (differ : found.labels.ip.index ≢ f
       within Ip = ip_within
       within Dp = mark_within newer block index ends
 
+  -- what is made of a way is what was sought of its generation
   pub made_sought : (way : Way) (s : Sought) → IsWayAs c found generation way → IsMadeOf found.labels.ip generation way s → IsSought c found generation s
   made_sought (ways.Link block index) (sights.There tree spot) w made = there w.0 block index tree spot w.1 w.2 w.3 made.0 made.1 made.2
   made_sought (ways.Link block index) sights.Lacking w made = inl (w.0, index, way_to w.0 block index w.1 w.2 w.3, made)
@@ -194,26 +196,31 @@ module _ {D : Type 0} (drive : Ghosts D) (start : Start) (a b : D) (generation :
         (λ c h found. (subst (λ (x : Sought). IsSought c found.0 generation x) is found.1).below);
   }
 
+  -- a generation that is found is there, with its tree
   pub seen_there : (c : Cartridge) (tree : FileTree) (spot : Spot) → s ≡ sights.There tree spot → drive.held a ≡ Some c → SeeksTo
       → (found : Found c) × IsThere c found generation tree spot
   seen_there c tree spot is h step =
       let found = step.found c h in (found.0, subst (λ (x : Sought). IsSought c found.0 generation x) is found.1)
 
+  -- a generation that isn't found is lacking on the cartridge
   pub seen_lacking : (c : Cartridge) → s ≡ sights.Lacking → drive.held a ≡ Some c → SeeksTo → RefusesView generation (view_errors.NoGeneration generation) c
   seen_lacking c is h step =
       let found = step.found c h in (refl, (found.0, subst (λ (x : Sought). IsSought c found.0 generation x) is found.1))
 
+  -- a way that breaks does so on the cartridge
   pub seen_broken : (c : Cartridge) (block : ℕ) (why : BreakWhy) → s ≡ sights.Broken block why → drive.held a ≡ Some c → SeeksTo
       → RefusesView generation (view_errors.Broken (record { part = Dp; pos = block }) why) c
   seen_broken c block why is h step =
       let found = step.found c h in (refl, (found.0, subst (λ (x : Sought). IsSought c found.0 generation x) is found.1))
 
+  -- to seek a generation the drive is only looked at, with so many commands
   pub all_looks : IsSince drive start a → SeeksTo → Looks drive ((26 + 2 * (drive.limits a).cap_ip + 5 * (drive.limits a).cap_dp) * drive.MOST) a b
   all_looks since step =
       subst (λ (l : Limits). Looks drive ((26 + 2 * l.cap_ip + 5 * l.cap_dp) * drive.MOST) a b) (sym since.limits)
       (looks_more drive start ((23 + 2 * start.limits.cap_ip + 2 * start.limits.cap_dp) + start.limits.cap_dp)
       (26 + 2 * start.limits.cap_ip + 5 * start.limits.cap_dp) a b (omega arith) step.looks)
 
+-- a cartridge that doesn't mount has no view
 pub refuses_view : (c : Cartridge) (generation : ℕ) (e : MountErr) → Blames e c → RefusesView generation (refusal e) c
 refuses_view c generation (mount_errors.Drive counts) blames = tt
 refuses_view c generation mount_errors.NoMemory blames = tt

@@ -61,6 +61,7 @@ module _ (r : Reads newest middle oldest) where
     within = tt;
   }
 
+  -- three indexes, each a link, are a whole chain
   pub whole : IsChain three r.found (newest ∷ middle ∷ oldest ∷ [])
   whole = record {
     links_are = for_label newest middle oldest r (λ (l : Label). AreLinks l three None all_three (newest ∷ middle ∷ oldest ∷ []))
@@ -68,6 +69,7 @@ module _ (r : Reads newest middle oldest) where
     whole = refl;
   }
 
+  -- the way to the generations 2 and 3 leads to the second index
   pub to_middle : (g : ℕ) → 2 ≤ g → g < 4 → IsWayTo three r.found g (newest ∷ []) middle
   to_middle g least most = record {
     links_are = for_label newest middle oldest r (λ (l : Label). AreLinks l three None all_three (newest ∷ middle ∷ []))
@@ -76,6 +78,7 @@ module _ (r : Reads newest middle oldest) where
     is_not = λ lt. omega (arith, lt, least);
   }
 
+  -- the way to generation 1 leads to the oldest index
   pub to_oldest : IsWayTo three r.found 1 (newest ∷ middle ∷ []) oldest
   to_oldest = record {
     links_are = for_label newest middle oldest r (λ (l : Label). AreLinks l three None all_three (newest ∷ middle ∷ oldest ∷ []))
@@ -84,6 +87,7 @@ module _ (r : Reads newest middle oldest) where
     is_not = λ lt. omega (arith, lt);
   }
 
+  -- the way to generation 4 or a later one leads to the newest index
   pub to_newest : (g : ℕ) → 4 ≤ g → IsWayTo three r.found g [] newest
   to_newest g least = record {
     links_are = for_label newest middle oldest r (λ (l : Label). AreLinks l three None all_three (newest ∷ [])) (newest_links middle oldest r, tt);
@@ -91,12 +95,15 @@ module _ (r : Reads newest middle oldest) where
     is_not = λ lt. omega (arith, lt, least);
   }
 
+  -- a generation between two indexes is lacking
   pub gap : LacksGeneration three r.found 3
   gap = inl (newest ∷ [], middle, to_middle 3 (omega arith) (omega arith), omega arith)
 
+  -- a generation above the newest index is lacking
   pub above : LacksGeneration three r.found 7
   above = inl ([], newest, to_newest 7 (omega arith), omega arith)
 
+  -- a generation below the oldest index is lacking
   pub below : LacksGeneration three r.found 0
   below = inr (newest ∷ middle ∷ oldest ∷ [], whole, (omega arith, (omega arith, (omega arith, tt))))
 
@@ -124,13 +131,16 @@ at_second second first r why b = record {
   fails = for_label newest second first r (λ (l : Label). Breaks l three second_index (first_index ∷ []) (Some 4) why) b;
 }
 
+-- a newest index whose text stops breaks the chain with that text
 pub text : (found : Found three) (e : IndexErr) → found.labels.ip ≡ label → Stops (text_of third_index) e
     → IsBrokenBehind three found [] 12 (breaks.Text e)
 text found e is stops = at_newest found is (breaks.Text e) stops
 
+-- an index of another volume breaks the chain
 pub volume : (r : Reads newest (record middle { uuid = 8; back = None }) oldest) → IsBrokenBehind three r.found (newest ∷ []) 9 breaks.Volume
 volume r = at_second _ oldest r breaks.Volume (record middle { uuid = 8; back = None }, r.second_is, (λ (same : ◌≡◌ {A = ℕ} 8 7). omega (arith, same)))
 
+-- an index that points back past the one before it breaks the chain
 pub skips : (r : Reads (index 4 (on_b 12) (Some (on_b 5))) middle oldest) → IsBrokenBehind three r.found [] 12 breaks.Pointer
 skips r = at_newest r.found r.label_is breaks.Pointer (
   index 4 (on_b 12) (Some (on_b 5)),
@@ -138,6 +148,7 @@ skips r = at_newest r.found r.label_is breaks.Pointer (
   (λ (p : PointsOnDp label third_index two (index 4 (on_b 12) (Some (on_b 5)))). omega (arith, ap block_in p.back)),
 )
 
+-- an index whose own place is its mark breaks the chain by its pointer
 pub mark : (r : Reads (index 4 (on_b 11) (Some (on_b 9))) middle oldest) → IsBrokenBehind three r.found [] 12 breaks.Pointer
 mark r = at_newest r.found r.label_is breaks.Pointer (
   index 4 (on_b 11) (Some (on_b 9)),
@@ -145,6 +156,7 @@ mark r = at_newest r.found r.label_is breaks.Pointer (
   (λ (p : PointsOnDp label third_index two (index 4 (on_b 11) (Some (on_b 9)))). omega (arith, ap (λ (spot : Spot). spot.block) p.here)),
 )
 
+-- of a wrong pointer and a generation that rises, the pointer is told
 pub pointer_first : (r : Reads newest (index 5 (on_b 9) None) oldest) → IsBrokenBehind three r.found (newest ∷ []) 9 breaks.Pointer
 pointer_first r = at_second _ oldest r breaks.Pointer (
   index 5 (on_b 9) None,
@@ -153,6 +165,7 @@ pointer_first r = at_second _ oldest r breaks.Pointer (
 )
 
 module _ (r : Reads newest (index 4 (on_b 9) (Some (on_b 5))) oldest) where
+  -- two indexes of one generation break the chain
   pub same : IsBrokenBehind three r.found (newest ∷ []) 9 breaks.Rises
   same = at_second _ oldest r breaks.Rises (
     index 4 (on_b 9) (Some (on_b 5)),
@@ -161,6 +174,7 @@ module _ (r : Reads newest (index 4 (on_b 9) (Some (on_b 5))) oldest) where
     (λ (lt : 4 < 4). omega (arith, lt)),
   )
 
+  -- a way to a newer generation doesn't come to the break
   pub not_so_far : IsWayTo three r.found 4 [] newest
   not_so_far = record {
     links_are = for_label newest _ oldest r (λ (l : Label). AreLinks l three None all_three (newest ∷ [])) (newest_links _ oldest r, tt);
@@ -168,6 +182,7 @@ module _ (r : Reads newest (index 4 (on_b 9) (Some (on_b 5))) oldest) where
     is_not = λ lt. omega (arith, lt);
   }
 
+  -- a way to an older generation comes to the break
   pub on_way : IsBrokenOnWay three r.found 1 9 breaks.Rises
   on_way = (newest ∷ [], same, (omega arith, tt))
 
@@ -179,6 +194,7 @@ mark_is_none f = by f.part f.letter f.high
     by Ip letter high = omega (arith, letter)
     by Dp letter high = omega (arith, high)
 
+-- a file with a block at its index's mark breaks the chain, with the uid of the first such file
 pub crosses : (r : Reads newest crossed oldest) → IsBrokenBehind three r.found (newest ∷ []) 9 (breaks.Extent 3)
 crosses r = at_second crossed oldest r (breaks.Extent 3) (
   crossed,

@@ -137,6 +137,7 @@ module _ {D : Type 0} (drive : Ghosts D) (start : Start) (label : Label) (end_ip
     pub since : IsSince drive start now
     pub come : (c : Cartridge) → drive.held first ≡ Some c → AreKnown end_ip places c × HasCome label c left after (So c)
 
+  -- a walk begins at the newest index, with no link yet
   pub begun : (first : D) (places : List Construct) (So : Cartridge → List Index → Type 0) → ((c : Cartridge) → So c []) → IsSince drive start first
       → AreBetween 4 start.limits.cap_dp places → IfSome (drive.held first) (AreKnown end_ip places) → Going first first places places None So
   begun first places So so since between known = record {
@@ -163,6 +164,7 @@ module _ {D : Type 0} (drive : Ghosts D) (start : Start) (label : Label) (end_ip
         → indexes_of c.dp ≡ newer ++ k ∷ ks → places_of k ≡ place → rest ≡ map places_of (reverse ks) → IsStepTo label c k ks after step)
         (IsSoundStep label end_ip place.mark) IsFree r
 
+    -- the index to which a walk comes lies between the labels and the capacity
     pub in_place : IsInPlace start.limits.cap_dp place
     in_place = record { mark = pops.1; first = pops.2; block = pops.3; after = omega (arith, pops.4, going.within) }
 
@@ -170,6 +172,7 @@ module _ {D : Type 0} (drive : Ghosts D) (start : Start) (label : Label) (end_ip
     pub mark_within : place.mark ≤ start.limits.cap_dp
     mark_within = omega (arith, pops.2, pops.3, pops.4, going.within)
 
+    -- on a cartridge that is told an index stands where the walk comes to
     pub known_there : IfSome (drive.held now) (λ c. HasIndexAt c.dp place × (end_ip ≡ ip_end c))
     known_there = by (drive.held now) refl
       where

@@ -53,6 +53,7 @@ run_off : (size pos : ℕ) (doc : List ℕ) (ks : List ℕ) → has_part Ip (pla
 run_off size pos doc [] = refl
 run_off size pos doc (k ∷ ks) = run_off size pos doc ks
 
+-- the puts of a document on the data partition put nothing on the index partition
 pub puts_off : (size pos : ℕ) (doc : List ℕ) → has_part Ip (places_of (puts size Dp pos doc)) ≡ false
 puts_off size pos doc = run_off size pos doc (range_with_len 0 (div_ceil (length doc) size))
 
@@ -94,6 +95,7 @@ framed_plain pos last blocks plain = map-append headed (Mark (dp pos) ∷ blocks
     ∙ ap (λ l. (put_at (dp pos) ∷ l) ++ put_at (dp last) ∷ []) plain
     ∙ sym (ap (map put_at) (map-append place_of (Mark (dp pos) ∷ blocks) (Mark (dp last) ∷ [])) ∙ map-append put_at (dp pos ∷ places_of blocks) (dp last ∷ []))
 
+-- the ops of an index on the data partition are those of an index
 pub is_index : (size pos : ℕ) (doc : List ℕ) → IsIndex (construct size Dp pos doc)
 is_index size pos doc =
     ends_so ((Mark (dp pos) ∷ puts size Dp (pos + 1) doc) ++ Mark (dp (pos + 1 + div_ceil (length doc) size)) ∷ []) (pos + 2 + div_ceil (length doc) size)
@@ -105,6 +107,7 @@ is_index size pos doc =
 abbrev ip : ℕ → Place
 ip pos = record { part = Ip; pos = pos }
 
+-- the flushes among a group that an index ends are those that were admitted
 pub ended_so : (due : Bool) (at : ℕ) (group : List Place) (asked : List Op) → (due ≡ false → has_part Ip group ≡ false) → IsIndex asked
     → with_flushes (group ++ places_of (flush_first due at ++ asked)) ≡ map put_at group ++ map headed (flush_first due at ++ asked)
 ended_so false at group asked free i = flushes_behind group (places_of asked) covered ∙ ap (λ l. map put_at group ++ l) i.flushes

@@ -20,6 +20,7 @@ use Rattle.group_laws.specs.Groups.{AdmitsNothing, IsGrouped, has_part, ops_afte
 use Rattle.group_laws.specs.Laws.{GroupsBegin, IsEnded, IsQueued, OthersKeepGroups, SyncsEndTheirOps, SyncsOfNothingEndNone, WritesQueueTheirOps, queued, synced}
 use Rattle.group_laws.proofs.Flushes.{ended_so, is_index, puts_headed, puts_off}
 
+-- of a volume of which nothing was asked yet no op is without its sync
 pub groups_begin : GroupsBegin
 groups_begin m = record { due = λ is. refl; changed = λ is. refl }
 
@@ -50,6 +51,7 @@ grouped_on v Dp bytes s st g = record {
   changed = λ is. let wrong : true ≡ false = is in cc;
 }
 
+-- a write queues its ops, and no sync has ended them yet
 pub writes_queue_their_ops : WritesQueueTheirOps
 writes_queue_their_ops = record {
   queued_are = λ v on s st wanted bytes. let part = part_for v on s wanted bytes in
@@ -74,6 +76,7 @@ ended_at here st places asked is = record {
   alike = record { head = refl; arrived = refl; requests = refl; done = refl; drains = refl };
 }
 
+-- a sync queues the ops of its index, and ends all that no other had
 pub syncs_end_their_ops : SyncsEndTheirOps
 syncs_end_their_ops = record {
   ended = λ v on s st here text g. let asked = ops_of v on s (index text) in
@@ -88,6 +91,7 @@ no_group : (here : ℕ) (st : State) → st.group ≡ [] → IsEnded here [] st 
 no_group here st none = subst (λ g. IsEnded here [] (record st { group = g }) (after (record st { group = g }) (events.Syncs here))) (sym none)
     (ended_at here (record st { group = [] }) [] [] refl)
 
+-- a sync before which nothing changed ends no op and waits for those that stand
 pub syncs_of_nothing_end_none : SyncsOfNothingEndNone
 syncs_of_nothing_end_none = record {
   ended = λ s st here g same. no_group here st (g.changed same);
@@ -157,6 +161,7 @@ standing_again st (events.Served ticket place (Some counts)) is = refl
 standing_again st (events.Worked place None) is = done_left st (waiting_op st)
 standing_again st (events.Worked place (Some counts)) is = waiter_ops st st.syncs
 
+-- what admits no op leaves those that no sync has ended
 pub others_keep_groups : OthersKeepGroups
 others_keep_groups = record {
   changed = λ v on s st g. record { due = g.due; changed = λ is. let wrong : true ≡ false = is in cc };

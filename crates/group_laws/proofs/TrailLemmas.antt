@@ -30,6 +30,7 @@ sync_trail (p ∷ ps) st here calm =
     and_from (allows st (events.Queues p)) (is_trail_from (after st (events.Queues p)) (queues_at ps ++ events.Syncs here ∷ [])) (not_due (is_due st) false calm)
     (sync_trail ps (after st (events.Queues p)) here calm)
 
+-- where no sync has to be answered first, ops may be queued and ended by a sync
 pub ops_may_come : OpsMayCome
 ops_may_come = record { queues = λ st places calm. queue_trail places st calm; syncs = λ st places here calm. sync_trail places st here calm }
 
@@ -149,6 +150,7 @@ apart_once : (places : List Place) → AreApart (replies.distinct places)
 apart_once [] = tt
 apart_once (p ∷ ps) = (none_left p (replies.distinct ps), apart_kept (λ other. not (replies.same_place p other)) (replies.distinct ps) (apart_once ps))
 
+-- a read may ask for its blocks, for each once
 pub reads_may_want : ReadsMayWant
 reads_may_want = record {
   may = λ st here places can. want_trail places st here can.calm (not_asked here st.requests places can.first) can.apart can.free;

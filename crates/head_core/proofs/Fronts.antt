@@ -147,6 +147,7 @@ at_end at x done.Wrote old new top w = absurd (omega (arith, top, w.vcr.by_one, 
 at_end at x done.Flushed old new top w = absurd w
 at_end at x (done.Failed counts) old new top w = (counts, refl, broken_at_end at.part at.pos old new top w)
 
+-- how a cartridge reads after an op: what stands in front of it stays
 pub ops_keep : OpsKeepFronts
 ops_keep = record {
   put = λ at bytes old new within w. put_last at (item.Block bytes) old new within w;
@@ -200,5 +201,6 @@ op_rest (op.Mark at) held before image w = inl w.rest
 op_rest (op.Flush at) held before image (inl w) = inl (same_rest at.part before image w)
 op_rest (op.Flush at) held before image (inr w) = inr w
 
+-- no image that a crash leaves within an op has changed what stands in front of it
 pub crashes_keep : CrashesKeepFronts
 crashes_keep = record { unseen = op_unseen; left = op_left; front = op_front; rest = op_rest }

@@ -61,6 +61,7 @@ module _ {D : Type 0} (drive : Ghosts D) where
   can_do_again (op.Mark at) end a b step can = still_in_reach (op.Mark at) end a b step can
   can_do_again (op.Flush at) end a b step can = tt
 
+  -- a place in reach before a read is in reach after it
   pub can_read_again : (at : Place) (end : StepDone) (a b : D) → IsReadStep drive at end a b
       → IsInReach at (drive.limits a) (drive.held a) → IsInReach at (drive.limits b) (drive.held b)
   can_read_again at end a b step reach = record {

@@ -72,5 +72,6 @@ worked st ws fault same p = by (waiting_op st) p.waits
         ap (λ (place : Place). same_place place p.at && is_least (key st.head place 0) (keys st)) at
         ∙ ap (λ (b : Bool). b && is_least (key st.head p.at 0) (keys st)) (same_here p.at) ∙ least
 
+-- a request or an op that is picked may come next in a trail
 pub picks_may_come : PicksMayCome
 picks_may_come = record { served = served; worked = worked }

@@ -21,6 +21,7 @@ put_all P w (v ∷ vs) hw h = by (put_all P w vs hw h.1) (nat_le w.arrival v.arr
     by on true = (hw, h)
     by on false = (h.0, on)
 
+-- what holds of all requests holds of all of them by arrival
 pub sorted_all : (P : Waiting → Type 0) (ws : List Waiting) → AllByRecursion P ws → AllByRecursion P (by_arrival ws)
 sorted_all P [] h = tt
 sorted_all P (w ∷ ws) h = put_all P w (by_arrival ws) h.0 (sorted_all P ws h.1)
@@ -52,6 +53,7 @@ put_length w (v ∷ vs) = by (put_length w vs) (nat_le w.arrival v.arrival)
     by on true = refl
     by on false = ap (λ (n : ℕ). suc n) on
 
+-- by arrival there are as many requests
 pub sorted_length : (ws : List Waiting) → length (by_arrival ws) ≡ length ws
 sorted_length [] = refl
 sorted_length (w ∷ ws) = put_length w (by_arrival ws) ∙ ap (λ (n : ℕ). suc n) (sorted_length ws)
@@ -88,6 +90,7 @@ put_kept w vs (z ∷ zs) ys x e = subst (λ (us : List Waiting). IsIn (put_in w 
     by on true = record { front = w ∷ z ∷ zs; behind = ys; parts = refl }
     by on false = in_more z x (put_in w (zs ++ x ∷ ys)) on
 
+-- a request that waits is among those by arrival
 pub sorted_in : (ws xs ys : List Waiting) (x : Waiting) → ws ≡ xs ++ x ∷ ys → IsIn (by_arrival ws) x
 sorted_in ws [] ys x e = subst (λ (us : List Waiting). IsIn (by_arrival us) x) (sym e) (put_there x (by_arrival ys))
 sorted_in ws (z ∷ zs) ys x e = subst (λ (us : List Waiting). IsIn (by_arrival us) x) (sym e) (by (sorted_in (zs ++ x ∷ ys) zs ys x refl))
@@ -111,6 +114,7 @@ put_end w (v ∷ vs) h =
     let is : nat_le w.arrival v.arrival ≡ false = (let lt : v.arrival < w.arrival = h.0 in grind (arith, nat_tests)) in
     ap (λ (b : Bool). cond b (w ∷ v ∷ vs) (v ∷ put_in w vs)) is ∙ ap (λ (us : List Waiting). v ∷ us) (put_end w vs h.1)
 
+-- a request that came last stands last by arrival
 pub sorted_more : (w : Waiting) (xs ys : List Waiting) → AllByRecursion (λ v. v.arrival < w.arrival) (xs ++ ys) → by_arrival (xs ++ w ∷ ys) ≡ by_arrival (xs ++ ys) ++ w ∷ []
 sorted_more w [] ys h = put_end w (by_arrival ys) (sorted_all (λ v. v.arrival < w.arrival) ys h)
 sorted_more w (x ∷ xs) ys h = ap (put_in x) (sorted_more w xs ys h.1) ∙ put_last x w (by_arrival (xs ++ ys)) h.0
@@ -244,6 +248,7 @@ others xs ys x d =
     without_one x.node x xs ys refl
     (subst (Misses x.node) (sym (nodes_both xs ys)) (misses_here (map node_of xs) (map node_of ys) x.node (subst Differ (nodes_both xs (x ∷ ys)) d)))
 
+-- without a request, the others stay in the order of their arrival
 pub sorted_less : (ws : List Waiting) (n : ℕ) → Differ (map node_of ws) → (g : HasNode ws n) (h : HasNode (by_arrival ws) n) → by_arrival (g.front ++ g.behind) ≡ h.front ++ h.behind
 sorted_less ws n d g h =
     ap by_arrival (sym (others g.front g.behind g.here (subst (λ (us : List Waiting). Differ (map node_of us)) g.parts d)))
@@ -265,6 +270,7 @@ has_either n (w ∷ ws) h = elim (nat_eq w.node n) as (λ t. nat_eq w.node n ≡
     more : HasNode ws n → HasNode (w ∷ ws) n
     more g = record { front = w ∷ g.front; here = g.here; behind = g.behind; parts = ap (λ (us : List Waiting). w ∷ us) g.parts; node = g.node }
 
+-- a number with a request by arrival has one in any order
 pub has_sorted : (ws : List Waiting) (n : ℕ) → HasNode (by_arrival ws) n → HasNode ws n
 has_sorted ws n h = has_either n ws (λ g. misses (sorted_all (λ w. w.node ≢ n) ws g))
   where

@@ -29,6 +29,7 @@ zip P Q R f (w ∷ ws) h g = (f w h.0 g.0, zip P Q R f ws h.1 g.1)
 
 -- ---- where a walk ends
 
+-- where a walk ends before a request, that is the first from a rank on
 pub walked_some : (es : List (Option QueueEntry)) (members : List ℕ) (m at next : ℕ) (e : QueueEntry) → (w : IsWalked es m members at) → next ≡ first_of 0 w.passed.cut.behind
     → entry_at es next ≡ Some e → IsFirst (map (waiting_at es) members) m (waiting next (Some e))
 walked_some es members m at next e w next_is is = by w.passed.cut.behind w.passed.cut.parts next_is w.ends
@@ -45,6 +46,7 @@ walked_some es members m at next e w next_is is = by w.passed.cut.behind w.passe
           upto = subst (λ (v : Waiting). m ≤ rank v) same ends;
         }
 
+-- where a walk ends with nothing behind it, all of a partition stand before the rank
 pub walked_none : (es : List (Option QueueEntry)) (members : List ℕ) (size m at next : ℕ) (part : Part) → AreKept es members size → (w : IsWalked es m members at) → next ≡ first_of 0 w.passed.cut.behind
     → entry_at es next ≡ None → AllByRecursion (λ v. v.place.part ≡ part → rank v < m) (map (waiting_at es) members)
 walked_none es members size m at next part kept w next_is is = by w.passed.cut.behind w.passed.cut.parts next_is
@@ -170,6 +172,7 @@ none_of ws part h = weak (λ v. v.place.part ≡ part → rank v < rank_of (reco
 
 -- ---- both partitions
 
+-- what is served first on the head's partition is served first of all
 pub part_first : (ws : List Waiting) (head : Place) (w : Waiting) → w.place.part ≡ head.part → AllByRecursion (λ v. v.place.part ≡ head.part → comes_first head.pos w v ≡ true) ws
     → AllByRecursion (λ v. stands_in head w v ≡ true) ws
 part_first ws head w ew h = weak (λ v. v.place.part ≡ head.part → comes_first head.pos w v ≡ true) (λ v. stands_in head w v ≡ true) (λ v g. by (key_within head.pos w.place.pos (w.arrival + 1)) (key_within head.pos v.place.pos (v.arrival + 1)) head.part w.place.part v.place.part ew g) ws h
@@ -207,6 +210,7 @@ no_part (w ∷ ws) part h g = absurd (by part w.place.part h.0 g.0)
 
 -- ---- what the two searches answer
 
+-- where nothing is ahead of the head, the first of its partition is served first there
 pub second_least : (ws : List Waiting) (part : Part) (pos : ℕ) (r : Option (ℕ × QueueEntry)) → AreOrdered ws
     → IfSome r (λ p. IsFirst ws (rank_of (record { part = part; pos = 0 }) 0) (waiting p.0 (Some p.1))) → IfSome r (λ p. p.1.place.part ≡ part)
     → AllByRecursion (λ v. v.place.part ≡ part → rank v < rank_of (record { part = part; pos = pos }) 0) ws
@@ -214,17 +218,20 @@ pub second_least : (ws : List Waiting) (part : Part) (pos : ℕ) (r : Option (�
 second_least ws part pos None ordered first is behind = tt
 second_least ws part pos (Some p) ordered first is behind = round ws part pos (waiting p.0 (Some p.1)) ordered first is behind
 
+-- where nothing is found from position 0 on, nothing waits on the partition
 pub second_none : (ws : List Waiting) (part : Part) (r : Option (ℕ × QueueEntry)) → IfNone r (AllByRecursion (λ v. v.place.part ≡ part → rank v < rank_of (record { part = part; pos = 0 }) 0) ws)
     → IfNone r (AllByRecursion (λ v. v.place.part ≢ part) ws)
 second_none ws part None h = none_of ws part h
 second_none ws part (Some p) h = tt
 
+-- where the head's partition has no request, the first of the other is served first of all
 pub far_least : (ws : List Waiting) (head : Place) (r : Option (ℕ × QueueEntry)) → AllByRecursion (λ v. v.place.part ≢ head.part) ws → IfSome r (λ p. p.1.place.part ≡ other head.part)
     → IfSome r (λ p. AllByRecursion (λ v. v.place.part ≡ other head.part → comes_first head.pos (waiting p.0 (Some p.1)) v ≡ true) ws)
     → IfSome r (λ p. AllByRecursion (λ v. stands_in head (waiting p.0 (Some p.1)) v ≡ true) ws)
 far_least ws head None none is h = tt
 far_least ws head (Some p) none is h = part_second ws head (waiting p.0 (Some p.1)) is none h
 
+-- where neither partition has a request, none waits at all
 pub far_none : (ws : List Waiting) (part : Part) (r : Option (ℕ × QueueEntry)) → AllByRecursion (λ v. v.place.part ≢ part) ws → IfNone r (AllByRecursion (λ v. v.place.part ≢ other part) ws) → IfNone r (ws ≡ [])
 far_none ws part None h g = no_part ws part h g
 far_none ws part (Some p) h g = tt

@@ -14,6 +14,7 @@ use Rattle.head_queue.proofs.NewestLemmas.{one, other, turned}
 
 -- ---- lists of pairs
 
+-- the numbers of a chain, each with its owner
 abbrev pub pairs_of : List ℕ → List ℕ → List Owned
 pairs_of os ms = map (owned_at os) ms
 
@@ -23,6 +24,7 @@ pairs_both os (x ∷ xs) ys = ap (λ (ps : List Owned). owned_at os x ∷ ps) (p
 
 -- ---- whose a number is
 
+-- what is something is not nothing
 pub some_not : (k : ℕ) → Some k ≡ None → ⊥
 some_not k e = cc
 
@@ -30,6 +32,7 @@ pub miss_none : (os : List ℕ) (n : ℕ) (ms : List ℕ) → Misses n ms → ow
 miss_none os n [] h = refl
 miss_none os n (k ∷ ms) h = other (Some (owner_at os k)) (owner_of n (pairs_of os ms)) n k h.0 ∙ miss_none os n ms h.1
 
+-- a number without an owner is none of the chain
 pub none_miss : (os : List ℕ) (n : ℕ) (ms : List ℕ) → owner_of n (pairs_of os ms) ≡ None → Misses n ms
 none_miss os n [] h = tt
 none_miss os n (k ∷ ms) h = (ne, none_miss os n ms (sym (other (Some (owner_at os k)) (owner_of n (pairs_of os ms)) n k ne) ∙ h))
@@ -37,6 +40,7 @@ none_miss os n (k ∷ ms) h = (ne, none_miss os n ms (sym (other (Some (owner_at
     ne : n ≢ k
     ne e = some_not (owner_at os k) (sym (one (Some (owner_at os k)) (owner_of n (pairs_of os ms)) n k e) ∙ h)
 
+-- a number that is put in gets its owner, and the others keep theirs
 pub owner_more : (n o k : ℕ) (xs ys : List Owned) → owner_of n xs ≡ None
     → owner_of k (xs ++ record { owner = o; node = n } ∷ ys) ≡ cond (nat_eq k n) (Some o) (owner_of k (xs ++ ys))
 owner_more n o k [] ys h = refl
@@ -47,6 +51,7 @@ owner_more n o k (x ∷ xs) ys h =
     ne : n ≢ x.node
     ne e = some_not x.owner (sym (one (Some x.owner) (owner_of n xs) n x.node e) ∙ h)
 
+-- a number that is taken out loses its owner, and the others keep theirs
 pub owner_less : (n k : ℕ) (x : Owned) (xs ys : List Owned) → x.node ≡ n → owner_of n xs ≡ None → owner_of n ys ≡ None
     → owner_of k (xs ++ ys) ≡ cond (nat_eq k n) None (owner_of k (xs ++ x ∷ ys))
 owner_less n k x [] ys is h g = elim (nat_eq k n) as (λ t. nat_eq k n ≡ t → owner_of k ys ≡ cond t None (cond (nat_eq k x.node) (Some x.owner) (owner_of k ys))) [
@@ -74,6 +79,7 @@ held_more os n o k ms w = record {
   owner = w.owner;
 }
 
+-- a number with an owner stands in the chain with that owner
 pub held_at : (os : List ℕ) (n o : ℕ) (ms : List ℕ) → owner_of n (pairs_of os ms) ≡ Some o → IsHeld os ms n o
 held_at os n o [] h = let e : None ≡ Some o = h in absurd (some_not o (sym e))
 held_at os n o (k ∷ ms) h = elim (nat_eq n k) as (λ t. nat_eq n k ≡ t → IsHeld os (k ∷ ms) n o) [
@@ -198,6 +204,7 @@ next_told o n p x xs ys is lacks =
     ] refl
     ∙ ap (λ (q : Option ℕ). cond (nat_eq p o) (Some n) q) (sym (last_both p xs (x ∷ ys)))
 
+-- behind the newest number of an owner there is room for one more of that owner
 pub room_for : (os ms : List ℕ) (size : ℕ) (newest : List Owned) (o : ℕ) → AreGrouped os ms size newest → IsRoom os ms o (number_or (lookup o newest))
 room_for os ms size newest o kept = by (lookup o newest) refl
   where
@@ -256,6 +263,7 @@ pairs_more os us n o at ms h m c =
     ∙ ap (λ (ps : List Owned). pairs_of os c.front ++ owned_at us n ∷ ps) (same_pairs os us n o h c.behind (misses_behind n c.front c.behind misses))
     ∙ ap (λ (v : ℕ). pairs_of os c.front ++ record { owner = v; node = n } ∷ pairs_of os c.behind) here
 
+-- with one more number behind its owner's newest, the chain stays in groups
 pub grouped_more : (os us : List ℕ) (n o at : ℕ) (ms : List ℕ) (size : ℕ) (newest now : List Owned) → AreGrouped os ms size newest → Reowned os us n o → Misses n (0 ∷ ms)
     → n ≤ size → length us ≡ size → (r : IsRoom os ms o at) → Ascending now
     → ((p : ℕ) → lookup p now ≡ cond (nat_eq p o) (Some n) (lookup p newest))
@@ -370,6 +378,7 @@ less_told os o n p fs bs is some m grouped =
         ∙ other (cond (holds os (last_of 0 fs) o) (Some (last_of 0 fs)) None) (Some j) j n (λ e. last_in os o n bs m (is_j ∙ ap (λ (i : ℕ). Some i) e))
         ∙ sym (last_both o (pairs_of os fs) (pairs_of os bs) ∙ ap (λ (q : Option ℕ). or_else q (last_held o (pairs_of os fs))) is_j)
 
+-- without a number the chain stays in groups, and the one before it may be the newest
 pub grouped_taken : (os : List ℕ) (n o : ℕ) (ms : List ℕ) (size : ℕ) (newest now : List Owned) → AreGrouped os ms size newest → (w : IsHeld os ms n o) → Ascending now
     → ((p : ℕ) → lookup p now ≡ cond (nat_eq p o) (left_over (lookup o newest) n (holds os (last_of 0 w.member.front) o) (last_of 0 w.member.front)) (lookup p newest))
     → AreGrouped os (w.member.front ++ w.member.behind) size now
@@ -418,11 +427,13 @@ lacks_at os o k ms l h = by (held_at os k o ms h)
     by : IsHeld os ms k o → ⊥
     by w = (behind (pairs_of os w.member.front) (owned_at os k ∷ pairs_of os w.member.behind) (subst (Lacks o) (ap (pairs_of os) w.member.parts ∙ pairs_both os w.member.front (k ∷ w.member.behind)) l)).0 (sym w.owner)
 
+-- the newest number that is found for an owner is that owner's
 pub newest_some : (os ms : List ℕ) (size : ℕ) (newest : List Owned) (o : ℕ) (r : Option ℕ) → AreGrouped os ms size newest → r ≡ lookup o newest
     → IfSome r (λ k. owner_of k (pairs_of os ms) ≡ Some o)
 newest_some os ms size newest o None kept is = tt
 newest_some os ms size newest o (Some k) kept is = newest_owner os ms size newest o k kept (sym is)
 
+-- an owner without a newest number has no number at all
 pub newest_none : (os ms : List ℕ) (size : ℕ) (newest : List Owned) (o : ℕ) (r : Option ℕ) → AreGrouped os ms size newest → r ≡ lookup o newest
     → IfNone r ((k : ℕ) → owner_of k (pairs_of os ms) ≢ Some o)
 newest_none os ms size newest o (Some k) kept is = tt
@@ -446,12 +457,15 @@ owners_less os n o ms d w k =
     (miss_none os n w.member.front (misses_front n w.member.front w.member.behind misses)) (miss_none os n w.member.behind (misses_behind n w.member.front w.member.behind misses))
     ∙ ap (λ (ps : List Owned). cond (nat_eq k n) None (owner_of k ps)) (sym (ap (pairs_of os) w.member.parts ∙ pairs_both os w.member.front (n ∷ w.member.behind)))
 
+-- with their owners there are as many numbers
 pub many : (os ms : List ℕ) → length (pairs_of os ms) ≡ length ms
 many os [] = refl
 many os (m ∷ ms) = ap (λ (k : ℕ). suc k) (many os ms)
 
+-- a number put between makes a list one longer
 pub one_longer : (xs ys : List ℕ) (n : ℕ) → length (xs ++ n ∷ ys) ≡ length (xs ++ ys) + 1
 one_longer xs ys n = let e = length-append xs (n ∷ ys) in let f = length-append xs ys in omega arith
 
+-- the last number before a cut is within the size
 pub last_within : (ms fs bs : List ℕ) (size : ℕ) → AllByRecursion (λ k. k ≤ size) ms → ms ≡ fs ++ bs → last_of 0 fs ≤ size
 last_within ms fs bs size h is = last_holds (λ k. k ≤ size) 0 fs (omega arith) (all_front (λ k. k ≤ size) fs bs (subst (AllByRecursion (λ (k : ℕ). k ≤ size)) is h))

@@ -15,30 +15,37 @@ use Rattle.head_queue.proofs.WalkLemmas.{find, some_none}
 
 -- ---- lists
 
+-- what is made of two lists together is made of each of them
 pub map_both : (f : ℕ → Waiting) (xs ys : List ℕ) → map f (xs ++ ys) ≡ map f xs ++ map f ys
 map_both f [] ys = refl
 map_both f (x ∷ xs) ys = ap (λ (ws : List Waiting). f x ∷ ws) (map_both f xs ys)
 
+-- the numbers of two lists of requests are those of the one and then of the other
 pub nodes_both : (xs ys : List Waiting) → map (λ (w : Waiting). w.node) (xs ++ ys) ≡ map (λ (w : Waiting). w.node) xs ++ map (λ (w : Waiting). w.node) ys
 nodes_both [] ys = refl
 nodes_both (x ∷ xs) ys = ap (λ (ks : List ℕ). x.node ∷ ks) (nodes_both xs ys)
 
+-- the requests under some numbers have just these numbers
 pub nodes_are : (es : List (Option QueueEntry)) (ks : List ℕ) → map (λ (w : Waiting). w.node) (map (waiting_at es) ks) ≡ ks
 nodes_are es [] = refl
 nodes_are es (k ∷ ks) = ap (λ (ns : List ℕ). k ∷ ns) (nodes_are es ks)
 
+-- what holds of all requests holds of those in front
 pub w_front : (P : Waiting → Type 0) (xs ys : List Waiting) → AllByRecursion P (xs ++ ys) → AllByRecursion P xs
 w_front P [] ys h = tt
 w_front P (x ∷ xs) ys h = (h.0, w_front P xs ys h.1)
 
+-- what holds of all requests holds of those behind
 pub w_behind : (P : Waiting → Type 0) (xs ys : List Waiting) → AllByRecursion P (xs ++ ys) → AllByRecursion P ys
 w_behind P [] ys h = h
 w_behind P (x ∷ xs) ys h = w_behind P xs ys h.1
 
+-- what holds of the requests in front and of those behind holds of all
 pub w_both : (P : Waiting → Type 0) (xs ys : List Waiting) → AllByRecursion P xs → AllByRecursion P ys → AllByRecursion P (xs ++ ys)
 w_both P [] ys h g = g
 w_both P (x ∷ xs) ys h g = (h.0, w_both P xs ys h.1 g)
 
+-- what holds of what stands under each number holds of all that stands there
 pub w_map : (P : Waiting → Type 0) (f : ℕ → Waiting) (ks : List ℕ) → AllByRecursion (λ k. P (f k)) ks → AllByRecursion P (map f ks)
 w_map P f [] h = tt
 w_map P f (k ∷ ks) h = (h.0, w_map P f ks h.1)
@@ -49,6 +56,7 @@ pub rising_front : (xs ys : List Waiting) → Rising (xs ++ ys) → Rising xs
 rising_front [] ys h = tt
 rising_front (x ∷ xs) ys h = (w_front (λ v. rank x < rank v) xs ys h.0, rising_front xs ys h.1)
 
+-- behind a cut the requests still stand in their order
 pub rising_behind : (xs ys : List Waiting) → Rising (xs ++ ys) → Rising ys
 rising_behind [] ys h = h
 rising_behind (x ∷ xs) ys h = rising_behind xs ys h.1
@@ -67,6 +75,7 @@ rising_more (x ∷ xs) ys w h below above =
 past : (x y a b m n : ℕ) → m ≡ x * 2 ^ 64 + a → n ≡ y * 2 ^ 64 + b → a < 2 ^ 64 → b < 2 ^ 64 → b < a → m ≤ n → m < n
 past x y a b m n e f ha hb lt le = omega arith
 
+-- requests that came one after the other don't have the same rank
 pub later : (v : Waiting) (w : Waiting) → IsFit v → IsFit w → v.arrival < w.arrival → rank w ≤ rank v → rank w < rank v
 later v w fv fw lt le = past (part_number w.place.part * 2 ^ 64 + w.place.pos) (part_number v.place.part * 2 ^ 64 + v.place.pos) w.arrival v.arrival (rank w) (rank v) refl refl fw.arrival fv.arrival lt le
 
@@ -117,6 +126,7 @@ order_more es fs n e members at h c m =
     ∙ ap (λ (ws : List Waiting). map (waiting_at es) c.front ++ waiting_at fs n ∷ ws) (same_map es fs n e h c.behind (misses_behind n c.front c.behind misses))
     ∙ ap (λ (o : Option QueueEntry). map (waiting_at es) c.front ++ waiting n o ∷ map (waiting_at es) c.behind) (changed_here es fs n e h)
 
+-- a request put in where the walk to its rank ends leaves the chain in order
 pub kept_more : (es fs : List (Option QueueEntry)) (n : ℕ) (e : QueueEntry) (members : List ℕ) (size at : ℕ) → AreKept es members size → Changed es fs n (Some e)
     → (w : IsWalked es (rank_of e.place e.arrival) members at) → Misses n (0 ∷ members) → IsFit (waiting n (Some e))
     → AllByRecursion (λ v. v.arrival < e.arrival) (map (waiting_at es) members) → length fs ≡ size
@@ -157,6 +167,7 @@ pub order_less : (es fs : List (Option QueueEntry)) (n : ℕ) (members : List �
 order_less es fs n members d h w =
     same_map es fs n None h (w.front ++ w.behind) (misses_here w.front w.behind n (subst Differ w.parts d)) ∙ map_both (waiting_at es) w.front w.behind
 
+-- a request taken out leaves the chain in order
 pub kept_less : (es fs : List (Option QueueEntry)) (n : ℕ) (members : List ℕ) (size : ℕ) → AreKept es members size → Changed es fs n None → (w : IsMember members n) → length fs ≡ size
     → AreKept fs (w.front ++ w.behind) size
 kept_less es fs n members size kept h w wide =
@@ -185,6 +196,7 @@ kept_less es fs n members size kept h w wide =
 
 -- ---- from the requests to their numbers
 
+-- a number with a request is one of the chain
 abbrev pub member_of : (es : List (Option QueueEntry)) (members : List ℕ) (n : ℕ) → (h : HasNode (map (waiting_at es) members) n) → IsMember members n
 member_of es members n h = record {
   front = map (λ (w : Waiting). w.node) h.front;
@@ -232,6 +244,7 @@ is_in es members size n e kept is = by (find n members)
           ∙ ap (λ (o : Option QueueEntry). map (waiting_at es) w.front ++ waiting n o ∷ map (waiting_at es) w.behind) is;
     }
 
+-- a number under which nothing waits is that of no request
 pub is_none : (es : List (Option QueueEntry)) (members : List ℕ) (size n : ℕ) → AreKept es members size → entry_at es n ≡ None → AllByRecursion (λ w. w.node ≢ n) (map (waiting_at es) members)
 is_none es members size n kept is = nodes_miss es n members (by (find n members))
   where
@@ -245,6 +258,7 @@ within [] k h = absurd (some_none None refl h)
 within (e ∷ es) zero h = omega arith
 within (e ∷ es) (suc k) h = let lt : k < length es = within es k h in omega arith
 
+-- a number of the chain is between 1 and the size
 pub member_fits : (es : List (Option QueueEntry)) (members : List ℕ) (size n : ℕ) → AreKept es members size → IsMember members n → (1 ≤ n) × (n ≤ size)
 member_fits es members size n kept w = by n (all_behind (λ k. IsSome (entry_at es k)) w.front (n ∷ w.behind) (subst (AllByRecursion (λ k. IsSome (entry_at es k))) w.parts kept.filled)).0
   where

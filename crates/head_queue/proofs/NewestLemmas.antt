@@ -14,9 +14,11 @@ pub record IsPlace (xs : List Owned) (o at : ℕ) : Type 0 where
 
 -- ---- tests
 
+-- where both numbers are equal, the first of two choices is taken
 pub one : (x y : Option ℕ) (a b : ℕ) → a ≡ b → cond (nat_eq a b) x y ≡ x
 one x y a b e = ap (λ (t : Bool). cond t x y) (eq-eqb a b e)
 
+-- where both numbers differ, the second of two choices is taken
 pub other : (x y : Option ℕ) (a b : ℕ) → a ≢ b → cond (nat_eq a b) x y ≡ y
 other x y a b ne = elim (nat_eq a b) as (λ t. nat_eq a b ≡ t → cond t x y ≡ y) [
   | true ↦ λ e. absurd (ne (eqb-true a b e))
@@ -40,6 +42,7 @@ all_at P (x ∷ xs) (suc k) d h lt = all_at P xs k d h.1 (omega arith)
 stays : (a b o : ℕ) → a < b → ltb b o ≡ true → ltb a o ≡ true
 stays a b o lt h = grind (arith, nat_tests)
 
+-- owners in ascending order are parted by any owner
 pub partitioned : (xs : List Owned) (o : ℕ) → Ascending xs → IsPartitionedBy (λ (x : Owned). ltb x.owner o) xs
 partitioned [] o h i j d le lt does = absurd (omega arith)
 partitioned (x ∷ xs) o h zero zero d le lt does = does
@@ -47,6 +50,7 @@ partitioned (x ∷ xs) o h zero (suc j) d le lt does = stays x.owner (get_or xs 
 partitioned (x ∷ xs) o h (suc i) zero d le lt does = absurd (omega arith)
 partitioned (x ∷ xs) o h (suc i) (suc j) d le lt does = partitioned xs o h.1 i j d (omega arith) (omega arith) does
 
+-- where the list is parted by an owner is that owner's place
 pub place : (xs : List Owned) (o at : ℕ) → IsPartitionPoint (λ (x : Owned). ltb x.owner o ≡ true) (λ (x : Owned). ltb x.owner o ≡ false) xs at → IsPlace xs o at
 place xs o at parts = record {
   below = λ k d lt. ltb-true (get_or xs k d).owner o (parts.0 k d (omega arith) lt);
@@ -58,6 +62,7 @@ next x xs o at p = record { below = λ k d lt. p.below (suc k) d (omega arith); 
 
 -- ---- lookups
 
+-- an owner that stands at its place has the number beside it
 pub found : (xs : List Owned) (o at : ℕ) (d : Owned) → IsPlace xs o at → at < length xs → (get_or xs at d).owner ≡ o → lookup o xs ≡ Some (get_or xs at d).node
 found [] o at d p lt is = absurd (omega arith)
 found (x ∷ xs) o zero d p lt is = one (Some x.node) (lookup o xs) o x.owner (sym is)
@@ -73,6 +78,7 @@ past_all : (o p : ℕ) (xs : List Owned) → o ≤ p → AllByRecursion (λ (x :
 past_all o p [] le h = tt
 past_all o p (x ∷ xs) le h = (let lt : p < x.owner = h.0 in omega arith, past_all o p xs le h.1)
 
+-- an owner that doesn't stand at its place has no number
 pub absent : (xs : List Owned) (o at : ℕ) (d : Owned) → Ascending xs → IsPlace xs o at → (at < length xs → (get_or xs at d).owner ≢ o) → lookup o xs ≡ None
 absent [] o at d h p ne = refl
 absent (x ∷ xs) o zero d h p ne =
@@ -86,6 +92,7 @@ absent (x ∷ xs) o (suc at) d h p ne =
 
 -- ---- changes
 
+-- a new pair in an owner's place changes that owner's number alone
 pub told_there : (xs : List Owned) (o at : ℕ) (v d : Owned) → IsPlace xs o at → at < length xs → (get_or xs at d).owner ≡ o → v.owner ≡ o
     → (p : ℕ) → lookup p (set xs at v) ≡ cond (nat_eq p o) (Some v.node) (lookup p xs)
 told_there [] o at v d pl lt is same p = absurd (omega arith)
@@ -99,6 +106,7 @@ told_there (x ∷ xs) o (suc at) v d pl lt is same p =
     ap (λ (q : Option ℕ). cond (nat_eq p x.owner) (Some x.node) q) (told_there xs o at v d (next x xs o at pl) (omega arith) is same p)
     ∙ turned (Some x.node) (Some v.node) (lookup p xs) p x.owner o (λ e. let low : x.owner < o = pl.below 0 d (omega arith) in omega arith)
 
+-- a pair put in at an owner's place gives that owner its number and changes no other
 pub told_new : (xs : List Owned) (o at : ℕ) (v d : Owned) → IsPlace xs o at → at ≤ length xs → v.owner ≡ o
     → (p : ℕ) → lookup p (insert xs at v) ≡ cond (nat_eq p o) (Some v.node) (lookup p xs)
 told_new xs o zero v d pl le same p = ap (λ (n : ℕ). cond (nat_eq p n) (Some v.node) (lookup p xs)) same
@@ -107,6 +115,7 @@ told_new (x ∷ xs) o (suc at) v d pl le same p =
     ap (λ (q : Option ℕ). cond (nat_eq p x.owner) (Some x.node) q) (told_new xs o at v d (next x xs o at pl) (omega arith) same p)
     ∙ turned (Some x.node) (Some v.node) (lookup p xs) p x.owner o (λ e. let low : x.owner < o = pl.below 0 d (omega arith) in omega arith)
 
+-- a pair taken out at an owner's place takes that owner's number and changes no other
 pub told_gone : (xs : List Owned) (o at : ℕ) (d : Owned) → Ascending xs → IsPlace xs o at → at < length xs → (get_or xs at d).owner ≡ o
     → (p : ℕ) → lookup p (remove xs at) ≡ cond (nat_eq p o) None (lookup p xs)
 told_gone [] o at d h pl lt is p = absurd (omega arith)
@@ -125,6 +134,7 @@ owners_set a [] at v lt h = tt
 owners_set a (x ∷ xs) zero v lt h = (lt, h.1)
 owners_set a (x ∷ xs) (suc at) v lt h = (h.0, owners_set a xs at v lt h.1)
 
+-- a new pair in its owner's place leaves the owners ascending
 pub ascending_there : (xs : List Owned) (o at : ℕ) (v d : Owned) → Ascending xs → IsPlace xs o at → at < length xs → (get_or xs at d).owner ≡ o → v.owner ≡ o → Ascending (set xs at v)
 ascending_there [] o at v d h pl lt is same = tt
 ascending_there (x ∷ xs) o zero v d h pl lt is same = (subst (λ (n : ℕ). AllByRecursion (λ (y : Owned). n < y.owner) xs) (is ∙ sym same) h.0, h.1)
@@ -136,6 +146,7 @@ owners_new a xs zero v lt h = (lt, h)
 owners_new a [] (suc at) v lt h = (lt, tt)
 owners_new a (x ∷ xs) (suc at) v lt h = (h.0, owners_new a xs at v lt h.1)
 
+-- a pair put in at the place of a new owner leaves the owners ascending
 pub ascending_new : (xs : List Owned) (o at : ℕ) (v d : Owned) → Ascending xs → IsPlace xs o at → at ≤ length xs → (at < length xs → (get_or xs at d).owner ≢ o) → v.owner ≡ o → Ascending (insert xs at v)
 ascending_new [] o zero v d h pl le ne same = (tt, tt)
 ascending_new [] o (suc at) v d h pl le ne same = absurd (omega arith)
@@ -153,6 +164,7 @@ owners_gone a [] (suc at) h = tt
 owners_gone a (x ∷ xs) zero h = h.1
 owners_gone a (x ∷ xs) (suc at) h = (h.0, owners_gone a xs at h.1)
 
+-- a pair taken out leaves the owners ascending
 pub ascending_gone : (xs : List Owned) (at : ℕ) → Ascending xs → Ascending (remove xs at)
 ascending_gone [] zero h = tt
 ascending_gone [] (suc at) h = tt
@@ -161,11 +173,13 @@ ascending_gone (x ∷ xs) (suc at) h = (owners_gone x.owner xs at h.0, ascending
 
 -- ---- in the words of the code
 
+-- within a list no value is needed for places outside
 pub whichever : (xs : List Owned) (k : ℕ) (d e : Owned) → k < length xs → get_or xs k d ≡ get_or xs k e
 whichever [] k d e lt = absurd (omega arith)
 whichever (x ∷ xs) zero d e lt = refl
 whichever (x ∷ xs) (suc k) d e lt = whichever xs k d e (omega arith)
 
+-- taking its number from an owner that has none changes nothing
 pub told_none : (xs : List Owned) (o : ℕ) → lookup o xs ≡ None → (p : ℕ) → lookup p xs ≡ cond (nat_eq p o) None (lookup p xs)
 told_none xs o none p = elim (nat_eq p o) as (λ t. nat_eq p o ≡ t → lookup p xs ≡ cond t None (lookup p xs)) [
   | true ↦ λ e. ap (λ (n : ℕ). lookup n xs) (eqb-true p o e) ∙ none

@@ -5,18 +5,22 @@ use Rattle.head_queue.specs.Rings.{IsPath, met_from}
 
 -- ---- lists of numbers that differ
 
+-- a number that isn't in a list isn't in the front of it
 pub misses_front : (k : ℕ) (xs ys : List ℕ) → Misses k (xs ++ ys) → Misses k xs
 misses_front k [] ys h = tt
 misses_front k (x ∷ xs) ys h = (h.0, misses_front k xs ys h.1)
 
+-- a number that isn't in a list isn't behind in it
 pub misses_behind : (k : ℕ) (xs ys : List ℕ) → Misses k (xs ++ ys) → Misses k ys
 misses_behind k [] ys h = h
 misses_behind k (x ∷ xs) ys h = misses_behind k xs ys h.1
 
+-- a number that is neither in front nor behind isn't in the list
 pub misses_both : (k : ℕ) (xs ys : List ℕ) → Misses k xs → Misses k ys → Misses k (xs ++ ys)
 misses_both k [] ys h g = g
 misses_both k (x ∷ xs) ys h g = (h.0, misses_both k xs ys h.1 g)
 
+-- the numbers behind a cut differ
 pub differ_behind : (xs ys : List ℕ) → Differ (xs ++ ys) → Differ ys
 differ_behind [] ys h = h
 differ_behind (x ∷ xs) ys h = differ_behind xs ys h.1
@@ -38,10 +42,12 @@ pub misses_here : (xs ys : List ℕ) (k : ℕ) → Differ (xs ++ k ∷ ys) → M
 misses_here [] ys k d = d.0
 misses_here (x ∷ xs) ys k d = (λ e. (misses_behind x xs (k ∷ ys) d.0).0 (sym e), misses_here xs ys k d.1)
 
+-- a number that isn't in a list, and isn't the end, isn't its first
 pub misses_first : (k e : ℕ) (xs : List ℕ) → k ≢ e → Misses k xs → k ≢ first_of e xs
 misses_first k e [] ne h = ne
 misses_first k e (x ∷ xs) ne h = h.0
 
+-- a number that isn't in a list, and isn't the begin, isn't its last
 pub misses_last : (k p : ℕ) (xs : List ℕ) → k ≢ p → Misses k xs → k ≢ last_of p xs
 misses_last k p [] ne h = ne
 misses_last k p (x ∷ xs) ne h = misses_last k x xs h.0 h.1
@@ -70,6 +76,7 @@ pub record Puts (f b g c : ℕ → ℕ) (at k next : ℕ) : Type 0 where
   pub afters : (s : ℕ) → s ≢ at → s ≢ k → g s ≡ f s
   pub befores : (t : ℕ) → t ≢ next → t ≢ k → c t ≡ b t
 
+-- a number that is linked in between two others makes the path one longer
 pub path_more : (f b g c : ℕ → ℕ) (k p : ℕ) (xs ys : List ℕ) (e : ℕ) → Puts f b g c (last_of p xs) k (first_of e ys)
     → Differ (p ∷ (xs ++ ys)) → Misses k (p ∷ (xs ++ ys)) → k ≢ e → Misses e (xs ++ ys)
     → IsPath f b p (xs ++ ys) e → IsPath g c p (xs ++ k ∷ ys) e
@@ -96,6 +103,7 @@ pub record Joins (f b g c : ℕ → ℕ) (at next : ℕ) : Type 0 where
   pub afters : (s : ℕ) → s ≢ at → g s ≡ f s
   pub befores : (t : ℕ) → t ≢ next → c t ≡ b t
 
+-- a number whose neighbours are joined falls out of the path
 pub path_less : (f b g c : ℕ → ℕ) (k p : ℕ) (xs ys : List ℕ) (e : ℕ) → Joins f b g c (last_of p xs) (first_of e ys)
     → Differ (p ∷ (xs ++ k ∷ ys)) → Misses e (xs ++ k ∷ ys)
     → IsPath f b p (xs ++ k ∷ ys) e → IsPath g c p (xs ++ ys) e
@@ -117,6 +125,7 @@ path_at f b k p [] [] e h = (h.1, h.2.0)
 path_at f b k p [] (y ∷ ys) e h = (h.1, h.2.0)
 path_at f b k p (x ∷ xs) ys e h = path_at f b k x xs ys e h.2
 
+-- the last number before a cut is linked with the first behind it
 pub path_after : (f b : ℕ → ℕ) (p : ℕ) (xs ys : List ℕ) (e : ℕ) → IsPath f b p (xs ++ ys) e → f (last_of p xs) ≡ first_of e ys
 path_after f b p [] [] e h = h.0
 path_after f b p [] (y ∷ ys) e h = h.0

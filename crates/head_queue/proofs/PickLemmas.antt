@@ -29,6 +29,7 @@ upto_self : (xs : List ℕ) → is_upto xs xs ≡ true
 upto_self [] = refl
 upto_self (x ∷ xs) = alike x x xs xs refl (upto_self xs)
 
+-- of two keys in order, the first numbers are less or equal, and then the rest is in order
 pub below_or : (x y : ℕ) (xs ys : List ℕ) → is_upto (x ∷ xs) (y ∷ ys) ≡ true → (x < y) ⊎ ((x ≡ y) × (is_upto xs ys ≡ true))
 below_or x y xs ys h = by (order x y)
   where
@@ -153,6 +154,7 @@ op_picked head op at ws is least = record {
       ∙ all_keys head (key head at 0) (by_arrival ws) (sorted_all (λ v. is_upto (key head at 0) (request_key head (request v)) ≡ true) ws least);
 }
 
+-- where the op comes before the first request, the op is picked
 pub op_first : (head : Place) (op : Option Place) (at : Place) (ws : List Waiting) (w : Waiting) → op ≡ Some at → AllByRecursion (λ v. stands_in head w v ≡ true) ws
     → is_upto (key head at 0) (request_key head (request w)) ≡ true → IsOpPicked head op (by_arrival ws)
 op_first head op at ws w is least h = op_picked head op at ws is (each_on head (key head at 0) w ws h least)

@@ -6,9 +6,11 @@ use Rattle.head_queue.specs.Keys.{is_upto, key_within}
 
 -- ---- keys
 
+-- the key with the lesser first number comes first
 pub lesser : (x y : ℕ) (xs ys : List ℕ) → x < y → is_upto (x ∷ xs) (y ∷ ys) ≡ true
 lesser x y xs ys lt = grind (arith, nat_tests)
 
+-- of two keys with the same first number, the rest says which comes first
 pub alike : (x y : ℕ) (xs ys : List ℕ) → x ≡ y → is_upto xs ys ≡ true → is_upto (x ∷ xs) (y ∷ ys) ≡ true
 alike x y xs ys e h = grind (arith, nat_tests)
 

@@ -65,6 +65,7 @@ with_last (x ∷ []) d zero e = refl
 with_last (x ∷ y ∷ ys) d zero e = absurd (omega arith)
 with_last (x ∷ xs) d (suc n) e = ap (λ (ks : List ℕ). x ∷ ks) (with_last xs d n (omega arith))
 
+-- a list from which the last number was taken is the rest and that number
 pub popped : (xs rest : List ℕ) (n len : ℕ) → len ≡ length xs → 0 < len → Some n ≡ Some (slice_index_or xs (len - 1) 0) → rest ≡ take (len - 1) xs → xs ≡ rest ++ n ∷ []
 popped xs rest n len e lt v r =
     with_last xs 0 (len - 1) (omega arith)
@@ -122,6 +123,7 @@ none_owned o ws d h = by [] ws refl
 
 -- ---- requests come and go
 
+-- the numbers of the requests differ
 pub nodes_differ : (order : List Waiting) (size : ℕ) (pairs : List Owned) (wide : ℕ) (free : List ℕ) (arrived capacity : ℕ) → AreReady order size pairs wide free arrived capacity
     → Differ (map node_of order)
 nodes_differ order size pairs wide free arrived capacity r = differ_behind free (map node_of order) r.numbers.differ.1
@@ -136,6 +138,7 @@ pub record IsTaken (order : List Waiting) (size : ℕ) (pairs : List Owned) (lef
   pub misses : Misses n (map node_of order)
   pub numbers : AreNumbers (left ++ n ∷ map node_of order) size
 
+-- a free number that is taken is within the size, and has neither request nor owner yet
 pub taken : (order : List Waiting) (size : ℕ) (pairs : List Owned) (wide : ℕ) (free : List ℕ) (arrived capacity : ℕ) (left : List ℕ) (n : ℕ)
     → AreReady order size pairs wide free arrived capacity → free ≡ left ++ n ∷ [] → IsTaken order size pairs left n
 taken order size pairs wide free arrived capacity left n r is =
@@ -201,6 +204,7 @@ pub record IsGiven (order : List Waiting) (pairs : List Owned) (n : ℕ) (e : Qu
   pub has : HasNode order n
   pub owner : owner_of n pairs ≡ Some e.owner
 
+-- a number under which a request waits has that request's owner
 pub given : (order : List Waiting) (size : ℕ) (pairs : List Owned) (wide : ℕ) (free : List ℕ) (arrived capacity n : ℕ) (e : QueueEntry)
     → AreReady order size pairs wide free arrived capacity → IsIn order (waiting n (Some e)) → IsGiven order pairs n e
 given order size pairs wide free arrived capacity n e r i =
@@ -278,14 +282,17 @@ ready_count order size pairs wide free arrived capacity r = ap (λ (n : ℕ). le
 
 -- ---- by owner
 
+-- a number that has a request isn't missing among the requests
 pub no_node : (ws : List Waiting) (n : ℕ) → HasNode ws n → AllByRecursion (λ w. w.node ≢ n) ws → ⊥
 no_node ws n h g = (w_behind (λ w. w.node ≢ n) h.front (h.here ∷ h.behind) (subst (AllByRecursion (λ (w : Waiting). w.node ≢ n)) h.parts g)).0 h.node
 
+-- where an owner has a newest number, a request of that owner waits
 pub newest_has : (order : List Waiting) (pairs : List Owned) (o : ℕ) (r : Option ℕ) → ((k : ℕ) → owner_of k (map owned order) ≡ owner_of k pairs)
     → IfSome r (λ k. owner_of k pairs ≡ Some o) → IfSome r (HasOwner (by_arrival order) o)
 newest_has order pairs o None agree h = tt
 newest_has order pairs o (Some k) agree h = owner_sorted order o k (has_owned k o order (agree k ∙ h))
 
+-- where an owner has no newest number, no request of that owner waits
 pub newest_lacks : (order : List Waiting) (pairs : List Owned) (o : ℕ) (r : Option ℕ) → Differ (map node_of order) → ((k : ℕ) → owner_of k (map owned order) ≡ owner_of k pairs)
     → IfNone r ((k : ℕ) → owner_of k pairs ≢ Some o) → IfNone r (AllByRecursion (λ w. w.owner ≢ o) (by_arrival order))
 newest_lacks order pairs o (Some k) d agree h = tt
@@ -305,9 +312,11 @@ any_there o (x ∷ xs) ys w is = by (nat_eq x.owner o) (any_there o xs ys w is)
     by true h = refl
     by false h = h
 
+-- where a request of an owner waits, the test for that owner says so
 pub any_owner : (ws : List Waiting) (o k : ℕ) → HasOwner ws o k → list_any (λ (v : Waiting). nat_eq v.owner o) ws ≡ true
 any_owner ws o k h = ap (list_any (λ (v : Waiting). nat_eq v.owner o)) h.has.parts ∙ any_there o h.has.front h.has.behind h.has.here h.owner
 
+-- where no request of an owner waits, the test for that owner says no
 pub none_owner : (o : ℕ) (ws : List Waiting) → AllByRecursion (λ w. w.owner ≢ o) ws → list_any (λ (v : Waiting). nat_eq v.owner o) ws ≡ false
 none_owner o [] h = refl
 none_owner o (w ∷ ws) h = ap (λ (b : Bool). b || list_any (λ (v : Waiting). nat_eq v.owner o) ws) (not_owner o w h.0) ∙ none_owner o ws h.1
@@ -319,11 +328,13 @@ filter_same o (w ∷ ws) h =
     ap (λ (b : Bool). cond (not b) (w ∷ filter (λ (v : Waiting). not (nat_eq v.owner o)) ws) (filter (λ (v : Waiting). not (nat_eq v.owner o)) ws)) (not_owner o w h.0)
     ∙ ap (λ (us : List Waiting). w ∷ us) (filter_same o ws h.1)
 
+-- without one request of an owner, the requests of all others are the same
 pub filter_less : (o : ℕ) (xs ys : List Waiting) (w : Waiting) → w.owner ≡ o
     → filter (λ (v : Waiting). not (nat_eq v.owner o)) (xs ++ ys) ≡ filter (λ (v : Waiting). not (nat_eq v.owner o)) (xs ++ w ∷ ys)
 filter_less o [] ys w is = sym (ap (λ (b : Bool). cond (not b) (w ∷ filter (λ (v : Waiting). not (nat_eq v.owner o)) ys) (filter (λ (v : Waiting). not (nat_eq v.owner o)) ys)) (eq-eqb w.owner o is))
 filter_less o (x ∷ xs) ys w is = ap (λ (us : List Waiting). cond (not (nat_eq x.owner o)) (x ∷ us) us) (filter_less o xs ys w is)
 
+-- an owner without a request counts none
 pub count_same : (o : ℕ) (ws : List Waiting) → AllByRecursion (λ w. w.owner ≢ o) ws → count_by (λ (w : Waiting). nat_eq w.owner o) ws ≡ 0
 count_same o [] h = refl
 count_same o (w ∷ ws) h =
@@ -331,6 +342,7 @@ count_same o (w ∷ ws) h =
     let rest : count_by (λ (v : Waiting). nat_eq v.owner o) ws ≡ 0 = count_same o ws h.1 in
     omega (arith, here, rest, sum_by-cons (λ (v : Waiting). cond (nat_eq v.owner o) 1 0) w ws)
 
+-- without one request of an owner, that owner counts one less
 pub count_less : (o : ℕ) (xs ys : List Waiting) (w : Waiting) → w.owner ≡ o
     → count_by (λ (v : Waiting). nat_eq v.owner o) (xs ++ w ∷ ys) ≡ count_by (λ (v : Waiting). nat_eq v.owner o) (xs ++ ys) + 1
 count_less o [] ys w is =
@@ -346,6 +358,7 @@ count_less o (x ∷ xs) ys w is =
     by : (m n : ℕ) → m + (n + 1) ≡ (m + n) + 1
     by m n = omega arith
 
+-- with one request taken out there is one less
 pub one_shorter : (ws now : List Waiting) (n : ℕ) → (h : HasNode ws n) → now ≡ h.front ++ h.behind → length now + 1 ≡ length ws
 one_shorter ws now n h is =
     let a : length now ≡ length h.front + length h.behind = ap length is ∙ length-append h.front h.behind in

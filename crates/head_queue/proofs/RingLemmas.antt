@@ -13,6 +13,7 @@ use Rattle.head_queue.proofs.PathLemmas.{Puts, Joins, path_more, path_less, path
 pub chosen : (x y a b : ℕ) → a ≡ b → cond (nat_eq a b) x y ≡ x
 chosen x y a b e = ap (λ (t : Bool). cond t x y) (eq-eqb a b e)
 
+-- a choice by two numbers that differ is the second
 pub passed : (x y a b : ℕ) → a ≢ b → cond (nat_eq a b) x y ≡ y
 passed x y a b ne = elim (nat_eq a b) as (λ t. nat_eq a b ≡ t → cond t x y ≡ y) [
   | true ↦ λ e. absurd (ne (eqb-true a b e))
@@ -21,14 +22,17 @@ passed x y a b ne = elim (nat_eq a b) as (λ t. nat_eq a b ≡ t → cond t x y 
 
 -- ---- what holds of all
 
+-- what holds of all numbers holds of those in front
 pub all_front : (P : ℕ → Type 0) (xs ys : List ℕ) → AllByRecursion P (xs ++ ys) → AllByRecursion P xs
 all_front P [] ys h = tt
 all_front P (x ∷ xs) ys h = (h.0, all_front P xs ys h.1)
 
+-- what holds of all numbers holds of those behind
 pub all_behind : (P : ℕ → Type 0) (xs ys : List ℕ) → AllByRecursion P (xs ++ ys) → AllByRecursion P ys
 all_behind P [] ys h = h
 all_behind P (x ∷ xs) ys h = all_behind P xs ys h.1
 
+-- what holds of the numbers in front and of those behind holds of all
 pub all_both : (P : ℕ → Type 0) (xs ys : List ℕ) → AllByRecursion P xs → AllByRecursion P ys → AllByRecursion P (xs ++ ys)
 all_both P [] ys h g = g
 all_both P (x ∷ xs) ys h g = (h.0, all_both P xs ys h.1 g)
@@ -39,6 +43,7 @@ all_wider (x ∷ xs) n h = (let le : x ≤ n = h.0 in omega arith, all_wider xs 
 
 -- ---- the ends of a front and of a rest
 
+-- what holds of the begin and of all numbers holds of the last one
 pub last_holds : (P : ℕ → Type 0) (p : ℕ) (xs : List ℕ) → P p → AllByRecursion P xs → P (last_of p xs)
 last_holds P p [] hp h = hp
 last_holds P p (x ∷ xs) hp h = last_holds P x xs h.0 h.1
@@ -47,20 +52,24 @@ pub first_holds : (P : ℕ → Type 0) (e : ℕ) (xs : List ℕ) → P e → All
 first_holds P e [] he h = he
 first_holds P e (x ∷ xs) he h = h.0
 
+-- the number before a cut is within the size
 pub cut_within : (xs : List ℕ) (at size : ℕ) → AllByRecursion (λ k. k ≤ size) xs → IsCut xs at → at ≤ size
 cut_within xs at size h w =
     subst (λ (k : ℕ). k ≤ size) (sym w.last)
     (last_holds (λ k. k ≤ size) 0 w.front (omega arith) (all_front (λ k. k ≤ size) w.front w.behind (subst (AllByRecursion (λ k. k ≤ size)) w.parts h)))
 
+-- the number behind a cut is within the size
 pub behind_within : (xs : List ℕ) (at size : ℕ) → AllByRecursion (λ k. k ≤ size) xs → (w : IsCut xs at) → first_of 0 w.behind ≤ size
 behind_within xs at size h w =
     first_holds (λ k. k ≤ size) 0 w.behind (omega arith) (all_behind (λ k. k ≤ size) w.front w.behind (subst (AllByRecursion (λ k. k ≤ size)) w.parts h))
 
+-- a number of the chain is within the size
 pub member_within : (xs : List ℕ) (k size : ℕ) → AllByRecursion (λ k. k ≤ size) xs → IsMember xs k → k ≤ size
 member_within xs k size h w = (all_behind (λ k. k ≤ size) w.front (k ∷ w.behind) (subst (AllByRecursion (λ k. k ≤ size)) w.parts h)).0
 
 -- ---- rings
 
+-- who follows the links from the first number meets the whole chain
 pub met : (f b : ℕ → ℕ) (size count : ℕ) (xs : List ℕ) → IsRing f b size xs count → met_from f count (f 0) ≡ xs
 met f b size count xs r = ap (λ (n : ℕ). met_from f n (f 0)) (sym r.counted) ∙ path_met f b 0 xs 0 r.path
 
@@ -68,25 +77,30 @@ met f b size count xs r = ap (λ (n : ℕ). met_from f n (f 0)) (sym r.counted) 
 pub seen : (f b : ℕ → ℕ) (size count : ℕ) (xs : List ℕ) → IsRing f b size xs count → IsRing f b size (met_from f count (f 0)) count
 seen f b size count xs r = subst (λ (ys : List ℕ). IsRing f b size ys count) (sym (met f b size count xs r)) r
 
+-- the link of the number before a cut leads to the first one behind it
 pub next_is : (f b : ℕ → ℕ) (size count at : ℕ) (xs : List ℕ) → IsRing f b size xs count → (w : IsCut xs at) → f at ≡ first_of 0 w.behind
 next_is f b size count at xs r w = ap f w.last ∙ path_after f b 0 w.front w.behind 0 (subst (λ (ys : List ℕ). IsPath f b 0 ys 0) w.parts r.path)
 
+-- the link back from a number leads to the last one before it
 pub before_is : (f b : ℕ → ℕ) (size count k : ℕ) (xs : List ℕ) → IsRing f b size xs count → (w : IsMember xs k) → b k ≡ last_of 0 w.front
 before_is f b size count k xs r w = (path_at f b k 0 w.front w.behind 0 (subst (λ (ys : List ℕ). IsPath f b 0 ys 0) w.parts r.path)).0
 
 pub after_is : (f b : ℕ → ℕ) (size count k : ℕ) (xs : List ℕ) → IsRing f b size xs count → (w : IsMember xs k) → f k ≡ first_of 0 w.behind
 after_is f b size count k xs r w = (path_at f b k 0 w.front w.behind 0 (subst (λ (ys : List ℕ). IsPath f b 0 ys 0) w.parts r.path)).1
 
+-- the number before one of the chain is within the size
 pub before_within : (f b : ℕ → ℕ) (size count k at : ℕ) (xs : List ℕ) → IsRing f b size xs count → IsMember xs k → at ≡ b k → at ≤ size
 before_within f b size count k at xs r w e =
     subst (λ (n : ℕ). n ≤ size) (sym (e ∙ before_is f b size count k xs r w))
     (last_holds (λ n. n ≤ size) 0 w.front (omega arith) (all_front (λ n. n ≤ size) w.front (k ∷ w.behind) (subst (AllByRecursion (λ n. n ≤ size)) w.parts r.within)))
 
+-- the number after one of the chain is within the size
 pub after_within : (f b : ℕ → ℕ) (size count k next : ℕ) (xs : List ℕ) → IsRing f b size xs count → IsMember xs k → next ≡ f k → next ≤ size
 after_within f b size count k next xs r w e =
     subst (λ (n : ℕ). n ≤ size) (sym (e ∙ after_is f b size count k xs r w))
     (first_holds (λ n. n ≤ size) 0 w.behind (omega arith) (all_behind (λ n. n ≤ size) w.front (k ∷ w.behind) (subst (AllByRecursion (λ n. n ≤ size)) w.parts r.within)).1)
 
+-- a number that is linked in at a cut makes the ring one longer
 pub inserted : (f b g c : ℕ → ℕ) (size count at k next : ℕ) (xs : List ℕ) → IsRing f b size xs count → (w : IsCut xs at) → next ≡ f at
     → Misses k (0 ∷ xs) → k ≤ size → length xs < size
     → ((s : ℕ) → g s ≡ cond (nat_eq s k) next (cond (nat_eq s at) k (f s)))
@@ -129,6 +143,7 @@ inserted f b g c size count at k next xs r w next_at apart fits room afters befo
       befores = λ s n m. befores s ∙ passed _ _ s next n ∙ passed _ _ s k m;
     }
 
+-- a number whose neighbours are linked with each other is out of the ring
 pub removed : (f b g c : ℕ → ℕ) (size count at k next : ℕ) (xs : List ℕ) → IsRing f b size xs count → (w : IsMember xs k)
     → at ≡ b k → next ≡ f k
     → ((s : ℕ) → g s ≡ cond (nat_eq s at) next (f s))
@@ -178,6 +193,7 @@ more_links ends links (suc m) = more links m
     more (l ∷ ls) zero = refl
     more (l ∷ ls) (suc m) = more ls m
 
+-- one more blank link leaves a ring as it was, with room for one more
 pub widened : (ends : Link) (links more : List Link) (size count : ℕ) (xs : List ℕ) → more ≡ links ++ blank ∷ []
     → IsRing (after_of ends links) (before_of ends links) size xs count → IsRing (after_of ends more) (before_of ends more) (size + 1) xs count
 widened ends links more size count xs e r = record {

@@ -305,5 +305,6 @@ among_all : (other : List ℕ) (ws : List Waiting) → AllByRecursion (λ (w : W
 among_all other [] h = tt
 among_all other (w ∷ ws) h = (h.0, among_all other ws h.1)
 
+-- the way of a head that serves by the pick is at most twice the way of any other
 pub sweeps_are_short : SweepsAreShort
 sweeps_are_short = λ head waiting order other a d s m. twice head.pos (map pos_of order) (map pos_of waiting) other (served head order waiting a s) d (among_all other waiting m)

@@ -23,10 +23,12 @@ find k (x ∷ xs) = elim (nat_eq k x) as (λ b. nat_eq k x ≡ b → Misses k (x
     later e (inl m) = inl ((λ same. let t : nat_eq k x ≡ true = eq-eqb k x same in cc), m)
     later e (inr w) = inr (record { front = x ∷ w.front; behind = w.behind; parts = ap (λ (ns : List ℕ). x ∷ ns) w.parts })
 
+-- what is nothing is not something
 pub some_none : (o : Option QueueEntry) → o ≡ None → IsSome o → ⊥
 some_none None e h = cc
 some_none (Some x) e h = cc
 
+-- the last of a list that ends with a number is that number
 pub last_is : (p k : ℕ) (xs : List ℕ) → last_of p (xs ++ k ∷ []) ≡ k
 last_is p k [] = refl
 last_is p k (x ∷ xs) = last_is x k xs

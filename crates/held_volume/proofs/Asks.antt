@@ -38,6 +38,7 @@ use Rattle.held_volume.proofs.Uids.{length_mark}
 abbrev IsNoRead : Call → Type 0
 IsNoRead call = (path : Path) (offset count : ℕ) → call ≡ asks.Read path offset count → ⊥
 
+-- a call that isn't refused where no byte is lost isn't refused on any tape, but for reads
 pub unrefused : (tape : Tape) (t : FileTree) (tree : plain.Tree) (call : Call) → IsNoRead call → refusal_of (plain_of whole t) call ≡ None → plain_of tape t ≡ tree → refusal_of tree call ≡ None
 unrefused tape t tree call other free is = ap (λ tree. refusal_of tree call) (sym is) ∙ free_too tape t call other free
 
@@ -53,12 +54,14 @@ module _ (before next : FileTree) (at : Moment) where
     lies = λ tape g on st is held. subst (λ (files : Files). LieAs files next) (sym (ask_plainly.files g on st call change lays)) (step.lies st.files held);
   }
 
+  -- a rename of a path to another one changes the tree and stores nothing
   pub rename_changes : (from to : Path) → same_path from to ≡ false → refusal_of (plain_of whole before) (asks.Rename from to) ≡ None → IsStep (asks.Rename from to) at before next → IsChanging (asks.Rename from to) at before next
   rename_changes from to apart free step =
       step_changes (asks.Rename from to) (λ p o c e. cc) refl (λ g st. ap (λ b. cond b nothing change) apart) free step
 
 -- ---- calls that ask nothing
 
+-- a call that would ask nothing asks nothing, refused or not
 pub asks_nothing : (r : Option Refusal) → ask_unless r nothing ≡ nothing
 asks_nothing None = refl
 asks_nothing (Some refusal) = refl
@@ -73,6 +76,7 @@ cells_long tape t path file room good stands has =
     let there = plain_there tape t path has.node (ap (fin.get t.nodes) same ∙ has.there) in
     (rw there (ap (λ k. length (plain.cells_of_kind (plain_kind_of tape k))) has.file)) ∙ long_as tape room.laid
 
+-- a file with extents lies as they tell
 pub has_laid : (t : FileTree) (file : ℕ) (room : Room) → HasExtents t.nodes file room → HasLaid t.nodes file room.laid
 has_laid t file room has = record { path = has.path; node = has.node; there = has.there; is = has.is; room = room; file = has.file; lies = refl }
 
@@ -84,6 +88,7 @@ module _ (t : FileTree) (path : Path) (file : ℕ) (room : Room) (size : ℕ) (a
       ∙ ap (λ n. cond (eqb size n) nothing change) (ap (λ (tree : plain.Tree). length (cells_at tree.nodes path)) (sym is) ∙ cells_long tape t path file room good stands has)
       ∙ ap (λ b. cond b nothing change) test
 
+  -- a truncation to the length that a file has leaves all as it is
   pub cut_still : room.laid.length ≡ size → IsStill (asks.Truncate path size) at t t
   cut_still e = record { same = refl; asks = test_is true (same_number e) }
     where
@@ -106,6 +111,7 @@ module _ (t : FileTree) (path : Path) (file : ℕ) (room : Room) (size : ℕ) (a
         by true = refl
         by false = refl
 
+    -- a truncation to another length changes the tree and stores nothing
     pub cut_changes : IsChanging (asks.Truncate path size) at t next
     cut_changes = record {
       plain = λ tape. plain_is tape path stands ∙ sym (after_free (plain_of tape t) (asks.Truncate path size) at (free_too tape t (asks.Truncate path size) (λ p o c e. cc) free));
@@ -144,6 +150,7 @@ dir_tried before next at path (Ok (Ok false)) made = absurd (made (asks.Mkdir pa
 dir_tried before next at path (Ok (Err refusal)) made = made (asks.Mkdir path) refl
 dir_tried before next at path (Err e) made = tt
 
+-- so is a file
 pub file_tried : {E : Type 0} (before next : FileTree) (at : Moment) (path : Path) (r : Result (Result Bool Refusal) E) → IfOk r (λ made. (call : Call) → making sorts.File path ≡ Some call → IsMade call at before next made)
     → IfOk r (IsTried (asks.Create path) at before next)
 file_tried before next at path (Ok (Ok true)) made = let m = made (asks.Create path) refl in (m.0, file_changes before next at path m.0 m.1)
@@ -172,6 +179,7 @@ to_root : (t : plain.Tree) (from : Path) → refusal_of t (asks.Rename from []) 
 to_root t [] = refl
 to_root t (name ∷ from) = rw (below_root (length from)) refl
 
+-- so a rename whose path has no name is refused
 pub none_to_root : (t : plain.Tree) (from to : Path) → length to ≡ 0 → refusal_of t (asks.Rename from to) ≡ Some refusals.Root
 none_to_root t from [] is = to_root t from
 none_to_root t from (name ∷ to) is = absurd (omega (arith, is))

@@ -109,6 +109,7 @@ module _ (t : FileTree) (l : Plan) (f : Frame) (at : Moment) (tape : Tape) (g : 
 
 -- ---- the index of the data partition
 
+-- where a close's index on the data partition fits, what is held then is what stands
 pub dp_admitted : (t : FileTree) (l now : Plan) (f after : Frame) (at : Moment) (text : List ℕ) (early : Tape) (g : Given) (on : Bool) (st : Standing) → IsStock early g on st (stocked t l f)
     → IsDpDocument g st at (Some text) → (place : Place) → IsSync text l now f after (Ok place) → IsDpDone early g on st at (stocked t l f) (stocked t now (with_index after))
 dp_admitted t l now f after at text early g on st i told place s =
@@ -121,6 +122,7 @@ dp_admitted t l now f after at text early g on st i told place s =
     asked : close_ask g st at ≡ index (sync_text g st at)
     asked = asks_index g on st at told.0
 
+-- where a close's index on the data partition isn't admitted, what was held still is
 pub dp_refused : (t : FileTree) (l now : Plan) (f after : Frame) (at : Moment) (text : List ℕ) (early : Tape) (g : Given) (on : Bool) (st : Standing) → IsStock early g on st (stocked t l f)
     → IsDpDocument g st at (Some text) → (e : AdmitErr) → IsSync text l now f after (Err e) → IsDpChange early g on st at (stocked t l f) (stocked t now after) (Err e)
 dp_refused t l now f after at text early g on st i told (Full need limit) s = record {
@@ -133,6 +135,7 @@ dp_refused t l now f after at text early g on st i told (Full need limit) s = re
     asked = asks_index g on st at told.0
 dp_refused t l now f after at text early g on st i told NoMemory s = tt
 
+-- where no index is due on the data partition, a close leaves what is held
 pub dp_still : (t : FileTree) (l : Plan) (f : Frame) (early : Tape) (g : Given) (on : Bool) (st : Standing) (at : Moment) → IsStock early g on st (stocked t l f)
     → IsDpDocument g st at None → IsDpDone early g on st at (stocked t l f) (stocked t l f)
 dp_still t l f early g on st at i told = record {
@@ -186,6 +189,7 @@ ip_end t l now f after at due doc text early g on st i told is same r s =
     by (Ok place) s = ip_admitted t l f at text early g on st i is_due now after place s
     by (Err e) s = ip_refused t l f at text early g on st i is_due now after e s
 
+-- where no index is due on the index partition, a close leaves what is held
 pub ip_still : (s : Stocked) (due : Option (Vec ℕ Global)) (g : Given) (st : Standing) (at : Moment) → due ≡ None
     → IsIpEnd (option_map (λ (doc : Vec ℕ Global). doc.items) due) g st at s s (Ok tt)
 ip_still s due g st at is = subst (λ (due : Option (Vec ℕ Global)). IsIpEnd (option_map (λ (doc : Vec ℕ Global). doc.items) due) g st at s s (Ok tt)) (sym is) (refl, refl)

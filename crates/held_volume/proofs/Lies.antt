@@ -31,6 +31,7 @@ use Rattle.held_volume.specs.Stocks.{LieAs, no_bytes}
 use Rattle.held_volume.specs.Steps.{IsStep}
 use Rattle.held_volume.proofs.Uids.{dir_in, new_mark, others_mark, uid_in}
 
+-- two numbers are equal or they aren't
 pub equal_or_not : (a b : ℕ) → (a ≡ b) ⊎ (a ≢ b)
 equal_or_not a b = ⊎_elim (λ (e : a ≡ b). inl e)
     (λ (apart : (a < b) ⊎ (b < a)). inr (λ e. ⊎_elim (λ (lt : a < b). omega (arith, e, lt)) (λ (gt : b < a). omega (arith, e, gt)) apart))
@@ -38,6 +39,7 @@ equal_or_not a b = ⊎_elim (λ (e : a ≡ b). inl e)
 
 -- ---- what stands at a path of the plain tree
 
+-- a node that stands at a path stands there in the plain tree
 pub plain_there : (tape : Tape) (t : FileTree) (p : Path) (node : Node) → fin.get t.nodes p ≡ Some node → fin.get (plain_of tape t).nodes p ≡ Some (plain_node_of tape node)
 plain_there tape t p node there = plain_get tape t.nodes p ∙ ap (option_map (plain_node_of tape)) there
 
@@ -81,6 +83,7 @@ module _ (before next : FileTree) (but : ℕ) (to : Path → Path) (good : IsGoo
         lies = h.lies;
       }
 
+  -- all files but one lie as they did
   pub others_as : (files : Files) → LieAs files before → (path : Path) (node : Node) (room : Room) → fin.get next.nodes path ≡ Some node → node.kind ≡ kinds.File room → node.number ≢ but → files node.uid ≡ room.laid
   others_as files held path node room there file apart =
       let was = was_there path node room there file apart in
@@ -163,5 +166,6 @@ module _ (before next : FileTree) (dir number : ℕ) (name : List ℕ) (sort : S
       fresh = λ uid more. held.fresh uid (omega (arith, more, highest)) ∙ ap no_bytes (sym volume.block_size);
     }
 
+  -- a node that was made is a step of the tree
   pub made_step : IsStep c.call at before next
   made_step = record { plain = done; volume = volume; blocks = adds; lies = λ files held. made_as files held }

@@ -25,6 +25,7 @@ use Rattle.held_volume.proofs.Lies.{plain_there}
 use Rattle.held_volume.proofs.Stands.{refused_too}
 
 module _ (tape : Tape) (t : FileTree) (path : Path) where
+  -- a listing of a directory is answered with its entries
   pub lists : (number : ℕ) (entries : List Entry) → StandsAt t path number → IsOfSort t number sorts.Dir → entries ≡ entries_in (plain_of tape t).nodes path
       → answers.Names entries ≡ answer (plain_of tape t) (asks.Listing path)
   lists number entries stands sort is =
@@ -35,6 +36,7 @@ module _ (tape : Tape) (t : FileTree) (path : Path) where
   pub refused : (why : Refusal) → refusal_of (plain_of tape t) (asks.Listing path) ≡ Some why → answers.Refused why ≡ answer (plain_of tape t) (asks.Listing path)
   refused why is = sym (ap (λ r. answer_unless r (value_of (plain_of tape t) (asks.Listing path))) is)
 
+  -- a listing of what is no directory is refused as the tree refuses it
   pub no_list : (number : ℕ) (sort : Sort) (why : Refusal) → StandsAt t path number → IsOfSort t number sort → Some why ≡ no_dir (plain_of whole t).nodes path
       → answers.Refused why ≡ answer (plain_of tape t) (asks.Listing path)
   no_list number sort why stands is told = refused why (refused_too tape t (plain_of tape t) (asks.Listing path) why refl (sym told))

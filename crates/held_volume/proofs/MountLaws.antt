@@ -89,6 +89,7 @@ file_fits : (label : Label) (ip dp : ℕ) (nodes : List Node) (at bytes : ℕ) (
     → AllByRecursion (λ e. 0 < e.count → Fits label ip dp e) raws
 file_fits label ip dp nodes at bytes raws all file = subst (FitsKind label ip dp) file.file (fits_at label ip dp nodes at file.node all file.is)
 
+-- what a mount finds can be started from
 pub mounts_can_start : MountsCanStart
 mounts_can_start limits m range is =
     let some : 1 ≤ m.label.block = omega (arith, is.blocks.0) in
@@ -114,6 +115,7 @@ mounts_can_start limits m range is =
       newest = omega (arith, is.newest, is.valid.formed.generation_most);
     }
 
+-- what a mount finds is held as what stands first
 pub mounts_are_stock : MountsAreStock
 mounts_are_stock tape limits m g t tree facts limits_are plain = record {
   mounted = facts;

@@ -23,6 +23,7 @@ all_joined : {X : Type 0} (P : X → Type 0) (xs ys : List X) → AllByRecursion
 all_joined P [] ys a b = b
 all_joined P (x ∷ xs) ys a b = (a.0, all_joined P xs ys a.1 b)
 
+-- where one fact follows from another, it holds of all where that does
 pub all_by : {X : Type 0} (P Q : X → Type 0) (xs : List X) → ((x : X) → P x → Q x) → AllByRecursion P xs → AllByRecursion Q xs
 all_by P Q [] f a = tt
 all_by P Q (x ∷ xs) f a = (f x a.0, all_by P Q xs f a.1)
@@ -56,6 +57,7 @@ module _ (size : ℕ) (part : Part) (pos : ℕ) (some : 1 ≤ size) where
 
 -- ---- pieces stand in the blocks of their extents
 
+-- a piece that stands on tape does so at such a place
 abbrev pub StandsWhere : (Part → ℕ → Type 0) → Piece → Type 0
 StandsWhere P (Stored place byte count) = P place.part place.pos
 StandsWhere P (Zeros count) = Unit {0}
@@ -92,6 +94,7 @@ module _ (size : ℕ) (P : Part → ℕ → Type 0) where
       (all_joined Fit (zeros (e.offset - low)) (pieces_of size e) (zeros_fit (e.offset - low)) (run_fits e (range_with_len 0 (div_ceil (e.byte + e.count) size)) (λ pos a. h e.part pos (inl a))))
       (gaps_fit (e.offset + e.count) end es (λ part pos b. h part pos (inr b)))
 
+-- each piece of a range stands in a block of its file
 pub plan_stands : (f : Laid) (offset count : ℕ) → IsLaid f → AllByRecursion (StandsWhere (FileStandsIn f)) (planned f offset count)
 plan_stands f offset count laid =
     all_given (IsInOneBlock f.block_size) (StandsWhere (FileStandsIn f)) (planned f offset count) (plans_read.in_one_block f offset count laid)
@@ -100,6 +103,7 @@ plan_stands f offset count laid =
 
 -- ---- no bytes are no pieces
 
+-- a range of no bytes has no pieces
 pub none_planned : (f : Laid) (offset : ℕ) → IsLaid f → planned f offset 0 ≡ []
 none_planned f offset laid =
     empty (left_from f.block_size offset (cut (offset + 0) f.extents))
@@ -111,6 +115,7 @@ none_planned f offset laid =
 
 -- ---- there are no more pieces than bytes
 
+-- there are no more pieces than bytes in them
 pub pieces_long : (size : ℕ) (pieces : List Piece) → All (IsInOneBlock size) pieces → length pieces ≤ size_of pieces
 pieces_long size [] each = omega arith
 pieces_long size (piece ∷ pieces) each =

@@ -45,6 +45,7 @@ range_within cells n offset count long =
     left : length (drop (min offset (length cells)) cells) ≡ length cells - min offset (length cells)
     left = Rattle.std.proofs.lemmas.List.length-drop (min offset (length cells)) cells
 
+-- the pieces of a range that is cut at the end of its file are those of what is left of it
 pub planned_within : (f : Laid) (offset count : ℕ) → IsLaid f → planned f (min offset f.length) (min count (f.length - min offset f.length)) ≡ planned f offset (min count (f.length - offset))
 planned_within f offset count laid = ⊎_elim
     (λ (lt : offset < f.length).
@@ -123,6 +124,7 @@ module _ (t : FileTree) (path : Path) (file offset count from within : ℕ) (roo
   stand_all = subst (λ ps. AllByRecursion (PieceStandsIn t) ps) (sym is)
       (all_by (StandsWhere (FileStandsIn room.laid)) (PieceStandsIn t) (planned room.laid from within) (stands_of t file room has) (plan_stands room.laid from within laid.lies))
 
+  -- the pieces of a read are read as the read is answered
   pub read_planned : (l : Plan) (f : Frame) (tape : Tape) (g : Given) (on : Bool) (st : Standing) → IsStock tape g on st (stocked t l f) → IsReadPlan tape st t path offset count pieces
   read_planned l f tape g on st i = record {
     pieces_are = are_planned ∙ planned_within room.laid offset count laid.lies
@@ -135,10 +137,12 @@ module _ (t : FileTree) (path : Path) (file offset count from within : ℕ) (roo
 
 -- ---- results
 
+-- what follows from two facts together holds of a success of which both hold
 pub two_ok : {X E : Type 0} (r : Result X E) (P Q R : X → Type 0) → ((x : X) → P x → Q x → R x) → IfOk r P → IfOk r Q → IfOk r R
 two_ok (Ok x) P Q R f p q = f x p q
 two_ok (Err e) P Q R f p q = tt
 
+-- pieces within blocks, of so many bytes at most, are a plan of a read of that size
 pub plan_of_most : (size count : ℕ) (laid : Laid) (within : ℕ) (pieces : List Piece) → IsFileOf size laid → All (IsInOneBlock laid.block_size) pieces → size_of pieces ≡ within → within ≤ count → IsPlanOfAtMost size count pieces
 plan_of_most size count laid within pieces is each long most =
     let blocks = subst (λ n. All (IsInOneBlock n) pieces) is.size each in

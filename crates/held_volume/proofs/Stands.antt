@@ -63,6 +63,7 @@ same_stands before next l f same tape g on st i = record {
   below = λ part pos h. i.below part pos (same.blocks part pos h);
 }
 
+-- a tree that is the same leaves what is held unchanged
 pub is_unchanged : (before next : FileTree) (l : Plan) (f : Frame) → IsSameTree before next → IsUnchanged (stocked before l f) (stocked next l f)
 is_unchanged before next l f same = record { layout = refl; frame = refl; stands = same_stands before next l f same }
 
@@ -116,6 +117,7 @@ still_stands t l f early late g on st i alike = record {
 
 module _ (t : FileTree) (l : Plan) (f : Frame) (call : Call) (at : Moment) (early : Tape) (g : Given) (on : Bool) (st : Standing)
     (i : IsStock early g on st (stocked t l f)) (asked : ask_of g st call at ≡ nothing) where
+  -- a call that asks nothing and changes nothing is done
   pub still_done : IsDone early g on st call at (stocked t l f) (stocked t l f)
   still_done = record {
     fits = ap (is_over (rules g) on st.space) asked;
@@ -123,6 +125,7 @@ module _ (t : FileTree) (l : Plan) (f : Frame) (call : Call) (at : Moment) (earl
     stands = λ late h. subst (λ (s : Standing). IsStock late g on s (stocked t l f)) (sym (are_still.nothing_asked g on st call at asked)) (still_stands t l f early late g on st i h.alike);
   }
 
+-- a call that changes the tree and asks nothing is done with its step
 pub step_done : (before next : FileTree) (l : Plan) (f : Frame) (call : Call) (at : Moment) (changed : Bool) → IsTreeStep call at changed before next
     → (early : Tape) (g : Given) (on : Bool) (st : Standing) → IsStock early g on st (stocked before l f) → IsDone early g on st call at (stocked before l f) (stocked next l (with_change changed f))
 step_done before next l f call at true step early g on st i = change_done before next l f call at step early g on st i
@@ -142,6 +145,7 @@ before_end n size byte some lt =
 pub not_over : (limit need : ℕ) → need ≤ limit → nat_lt limit need ≡ false
 not_over limit need h = grind (arith, nat_tests, h)
 
+-- a need above its limit is over it
 pub over : (limit need : ℕ) → limit < need → nat_lt limit need ≡ true
 over limit need h = grind (arith, nat_tests, h)
 
@@ -153,6 +157,7 @@ module _ (part : Part) (n : ℕ) (e : layout.Ends) where
       by Ip = refl
       by Dp = refl
 
+  -- a later end of one partition leaves no end earlier
   pub ends_grow : (other : Part) → end_of part e ≤ n → end_of other e ≤ end_of other (with_end part n e)
   ends_grow other more = by part other more
     where
@@ -257,16 +262,19 @@ module _ (before next : FileTree) (l : Plan) (f : Frame) (path : Path) (offset b
 
 -- ---- a write as a whole
 
+-- a write of no bytes asks nothing of the tape
 pub empty_asks : (g : Given) (st : Standing) (path : Path) (offset : ℕ) (bytes : List ℕ) (at : Moment) → true ≡ eqb (length bytes) 0 → ask_of g st (asks.Write path offset bytes) at ≡ nothing
 empty_asks g st path offset [] at e = asks_nothing (refusal_of st.tree (asks.Write path offset []))
 empty_asks g st path offset (b ∷ bytes) at e =
     let test : eqb (length (b ∷ bytes)) 0 ≡ false = grind (arith, nat_tests) in
     absurd (let wrong : true ≡ false = e ∙ test in cc)
 
+-- bytes whose count isn't 0 are one at least
 pub some_bytes : (bytes : List ℕ) → false ≡ eqb (length bytes) 0 → 1 ≤ length bytes
 some_bytes [] e = absurd cc
 some_bytes (b ∷ bytes) e = omega arith
 
+-- a write whose bytes are admitted is done
 pub write_all : (old before next : FileTree) (l now : Plan) (f : Frame) (path : Path) (offset : ℕ) (bytes : List ℕ) (at : Moment) (wanted : Bool) (place : Place)
     → IsSameTree old before → 1 ≤ length bytes → refusal_of (plain_of whole before) (asks.Write path offset bytes) ≡ None → 1 ≤ before.block_size
     → ((tape : Tape) → wanted ≡ chooses_ip f.carried.policy (unwrap_or (last_name path) []) (max (length (plain.cells_at (plain_of tape before).nodes path)) (offset + length bytes)))
@@ -288,6 +296,7 @@ write_all old before next l now f path offset (b ∷ rest) at wanted place same 
       stands = λ late h. done.stands late (record { alike = λ part pos byte there. h.alike part pos byte (same.blocks part pos there); holds = h.holds });
     }
 
+-- a write whose bytes aren't admitted ends as it is told, with all as it was
 pub write_refused : (old before : FileTree) (l now : Plan) (f : Frame) (path : Path) (offset : ℕ) (bytes : List ℕ) (at : Moment) (wanted : Bool) (e : AdmitErr)
     → IsSameTree old before → 1 ≤ length bytes → refusal_of (plain_of whole before) (asks.Write path offset bytes) ≡ None → 1 ≤ before.block_size
     → ((tape : Tape) → wanted ≡ chooses_ip f.carried.policy (unwrap_or (last_name path) []) (max (length (plain.cells_at (plain_of tape before).nodes path)) (offset + length bytes)))
@@ -299,6 +308,7 @@ write_refused old before l now f path offset (b ∷ rest) at wanted (Full need l
     write_full before before l f path offset b rest at wanted (record { offset = offset; part = Dp; block = 0; byte = 0; count = 0 }) free early g on st (same_stands old before l f same early g on st i) block (wants early) need limit admitted.0 admitted.1 admitted.2
 write_refused old before l now f path offset (b ∷ rest) at wanted NoMemory same some free block wants admitted early g on st i = tt
 
+-- an admission that is refused leaves what is held unchanged
 pub refused_leaves : (old before : FileTree) (l now : Plan) (f : Frame) (a : Admission) (e : AdmitErr) → IsSameTree old before → IsAdmitted a l now (Err e) → IsUnchanged (stocked old l f) (stocked before now f)
 refused_leaves old before l now f a (Full need limit) same admitted = subst (λ n. IsUnchanged (stocked old l f) (stocked before n f)) (sym admitted.3) (is_unchanged old before l f same)
 refused_leaves old before l now f a NoMemory same admitted = subst (λ n. IsUnchanged (stocked old l f) (stocked before n f)) (sym admitted) (is_unchanged old before l f same)
@@ -316,6 +326,7 @@ pub write_told : (early : Tape) (g : Given) (on : Bool) (st : Standing) (call : 
     → IsDone early g on st call at old new → IsApplied early g on st call at old new (Ok None)
 write_told early g on st call at old new free h = (free, h)
 
+-- and of one that is not done
 pub write_not : (early : Tape) (g : Given) (on : Bool) (st : Standing) (call : Call) (at : Moment) (old new : Stocked) (e : AdmitErr) → refusal_of (plain_of whole old.tree) call ≡ None
     → IsChange early g on st call at old new (Err e) → IsApplied early g on st call at old new (Err e)
 write_not early g on st call at old new (Full need limit) free h = (free, h)
@@ -371,6 +382,7 @@ same_tree before next (Err e) is = subst (IsSameTree before) (sym is) (unchanged
 
 -- ---- ops
 
+-- what is held stays so once files may go to the index partition
 pub turned_on : (t : FileTree) (l now : Plan) (f : Frame) (tape : Tape) (g : Given) (on : Bool) (st : Standing) → IsStock tape g on st (stocked t l f) → now ≡ record l { ip_on = true } → IsStock tape g true st (stocked t now f)
 turned_on t l now f tape g on st i is = record {
   plain = i.plain;
@@ -382,6 +394,7 @@ turned_on t l now f tape g on st i is = record {
   below = i.below;
 }
 
+-- what is held stays so once the first op is done
 pub op_done : (t : FileTree) (l now : Plan) (f : Frame) (tape : Tape) (g : Given) (on : Bool) (st : Standing) → IsStock tape g on st (stocked t l f) → now ≡ record l { ops = drop 1 l.ops } → IsStock tape g on st (stocked t now f)
 op_done t l now f tape g on st i is = record {
   plain = i.plain;

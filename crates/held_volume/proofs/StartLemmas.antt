@@ -35,6 +35,7 @@ use Rattle.held_volume.specs.Stocks.{IsStock, LieAs, ends_of, frame_of, no_bytes
 abbrev has_uid : ℕ → told.Node → Bool
 has_uid uid n = eqb n.uid uid
 
+-- a node of an index is found by its uid
 pub found_at : (nodes : List told.Node) (at : ℕ) (node : told.Node) → IsAt nodes at node
     → ((a b : ℕ) (one other : told.Node) → IsAt nodes a one → IsAt nodes b other → one.uid ≡ other.uid → a ≡ b) → find (has_uid node.uid) nodes ≡ Some node
 found_at [] at node is apart = absurd (let wrong : None ≡ Some node = is in cc)
@@ -105,6 +106,7 @@ module _ (m : MountFacts) (t : FileTree) (mounts : CanMount m.index (letters m) 
       is.name root first ∙ sym (ap (λ o. unwrap_or (option_map (λ (n : told.Node). n.name) o) [])
       (ap (λ u. find (has_uid u) m.index.nodes) (sym (uids.root root first)) ∙ found_at m.index.nodes 0 root first uids.apart))
 
+-- what a mount finds is held as what stands first, on any tape
 pub start_stands : (limits : Limits) (m : Mounted) → CanStart limits m → (t : FileTree) → IsTreeOf (letters_of m) m.label.block m.index t → (l : Plan)
     → l ≡ plan limits m.label.block (mounted_ends m) [] false m.ip_on
     → (f : Frame) → f ≡ record { label = m.label; carried = Rattle.file_tree.specs.Carried.carried_of m.index; generation = m.newest; last_dp = m.last_dp; changed = false; dp_done = m.dp_done; ip_done = m.ip_done; noted = m.noted }

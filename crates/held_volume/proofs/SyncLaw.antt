@@ -38,6 +38,7 @@ back_spot : (letter : ℕ) (back : Option ℕ) → Rattle.index_model.specs.Text
 back_spot letter None is near = tt
 back_spot letter (Some block) is near = record { letter = is; block = near }
 
+-- the index of a sync tells the tree that stands
 pub synced_tells : SyncsTellTheTree
 synced_tells tape g on st s at i good can =
     let tells : TellsTree (letters g.mounted) s.tree (index_of_sync g st at) = record {

@@ -52,15 +52,19 @@ module _ (t : FileTree) (l : Plan) (f : Frame) (at : Moment) (text : List ℕ) (
 
   -- where this is asked
   module _ (ask : Ask) (asked : ask ≡ index (sync_text g st at)) where
+    -- an index that needs more than there is is over the limit of the space
     pub asks_more : admission.limit < admission.need → is_over (rules g) on st.space ask ≡ true
     asks_more more = ap (is_over (rules g) on st.space) asked ∙ over _ _ (subst (λ (a : Admission). a.limit < a.need) index_admitted more)
 
+    -- an index that needs no more than there is isn't over the limit of the space
     pub asks_no_more : admission.need ≤ admission.limit → is_over (rules g) on st.space ask ≡ false
     asks_no_more fits = ap (is_over (rules g) on st.space) asked ∙ not_over _ _ (subst (λ (a : Admission). a.need ≤ a.limit) index_admitted fits)
 
+    -- the need of the plan's admission is the one that the space tells
     pub need_asked : admission.need ≡ need_of (rules g) on st.space ask
     need_asked = ap (λ (a : Admission). a.need) index_admitted ∙ ap (need_of (rules g) on st.space) (sym asked)
 
+    -- the limit of the plan's admission is the one that the space tells
     pub limit_asked : admission.limit ≡ limit_of (rules g) on st.space ask
     limit_asked = ap (λ (a : Admission). a.limit) index_admitted ∙ ap (limit_of (rules g) on st.space) (sym asked)
 
@@ -71,6 +75,7 @@ module _ (t : FileTree) (l : Plan) (f : Frame) (at : Moment) (text : List ℕ) (
       ops_are : now.ops ≡ l.ops ++ ops_of (rules g) on st.space (index (sync_text g st at))
       ops_are = ap (λ (p : Plan). p.ops) plan_is
 
+      -- the ops that are admitted are those that the space asks
       pub ops_asked : now.ops ≡ l.ops ++ ops_of (rules g) on st.space ask
       ops_asked = ops_are ∙ ap (λ ask. l.ops ++ ops_of (rules g) on st.space ask) (sym asked)
 
@@ -95,6 +100,7 @@ module _ (t : FileTree) (l : Plan) (f : Frame) (at : Moment) (text : List ℕ) (
             further : (a b pos : ℕ) → a ≤ b → pos < a → pos < b
             further a b pos h lt = omega (arith, h, lt)
 
+        -- with the index of a sync, what is held is what stands after it
         pub asked_stands : (late : Tape) → AreAlikeIn (TreeStandsIn t) late early
             → IsStock late g on (record st { space = space.after (rules g) on st.space ask }) (stocked t now (with_index (with_sync f place)))
         asked_stands late alike = subst (λ ask. IsStock late g on (record st { space = space.after (rules g) on st.space ask }) (stocked t now (with_index (with_sync f place))))
@@ -127,12 +133,14 @@ pub synced : (t : FileTree) (l now : Plan) (f after : Frame) (at : Moment) (text
 synced t l now f after at text early g on st i told (Full need limit) s = sync_full t l f at text early g on st i told.1 told.0 need limit s.admitted.0 s.admitted.1 s.admitted.2
 synced t l now f after at text early g on st i told NoMemory s = tt
 
+-- a sync whose index is admitted is done
 pub sync_admitted : (t : FileTree) (l now : Plan) (f after : Frame) (at : Moment) (text : List ℕ) (early : Tape) (g : Given) (on : Bool) (st : Standing) → IsStock early g on st (stocked t l f)
     → IsDocument g st at (Some text) → (place : Place) → IsSync text l now f after (Ok place) → IsDone early g on st asks.Sync at (stocked t l f) (stocked t now (with_index after))
 sync_admitted t l now f after at text early g on st i told place s =
     subst (λ a. IsDone early g on st asks.Sync at (stocked t l f) (stocked t now (with_index a))) (sym s.frame)
     (sync_done t l f at text early g on st i told.1 told.0 now place s.admitted.0 s.admitted.1 s.admitted.2)
 
+-- a sync before which nothing changed is done, with all as it was
 pub sync_still : (t : FileTree) (l : Plan) (f : Frame) (early : Tape) (g : Given) (on : Bool) (st : Standing) (at : Moment) → IsStock early g on st (stocked t l f)
     → IsDocument g st at None → IsDone early g on st asks.Sync at (stocked t l f) (stocked t l f)
 sync_still t l f early g on st at i told = still_done t l f asks.Sync at early g on st i (asked_nothing g st at told)
@@ -150,6 +158,7 @@ sync_unchanged t l now f after text e s =
 
 -- ---- the text
 
+-- the text of a sync where something changed is the one that is due
 pub document_told : (t : FileTree) (l : Plan) (f : Frame) (at : Moment) (end : ℕ) (text : List ℕ) → f.changed ≡ true → end ≡ l.ends.dp → text ≡ canon (sync_index f t end at)
     → (tape : Tape) (g : Given) (on : Bool) (st : Standing) → IsStock tape g on st (stocked t l f) → IsDocument g st at (Some text)
 document_told t l f at end text changed here is tape g on st i =
@@ -160,6 +169,7 @@ document_told t l f at end text changed here is tape g on st i =
 puts_long : (size : ℕ) (part : Rattle.tape_types.specs.declared.cartridges.Part.Part) (pos : ℕ) (doc : List ℕ) → length (puts size part pos doc) ≡ div_ceil (length doc) size
 puts_long size part pos doc = length-map-range_with_len (λ k. Put (record { part = part; pos = pos + k }) (block_at size doc k)) 0 (div_ceil (length doc) size)
 
+-- a write of so many bytes, and an index of such a text, bring at most so many ops
 pub brings : (v : Rules) (on : Bool) (s : Space) (count size most : ℕ) → v.block_size ≡ size → most ≡ div_ceil count size + 4 → BringsAtMost v on s count most
 brings v on s count size most same is = record {
   stores = λ wanted bytes long.

@@ -68,6 +68,7 @@ near_after v on s change most fits back = back
 near_after v on s (store wanted bytes) most fits back = back
 near_after v on s (index text) most fits back = (index_has_place v on s text most fits).here
 
+-- the index of a sync that fits can be told
 pub syncs_can_tell : SyncsCanTell
 syncs_can_tell = record {
   tells = can_tell;

@@ -66,6 +66,7 @@ module _ (tape : Tape) (g : Given) (on : Bool) (st : Standing) (s : Stocked) (i 
   abbrev index_now : ℕ → Part → ℕ → Option ℕ → Index
   index_now generation part pos back = index_at g.mounted st.tree st.files generation at part pos back
 
+  -- the nodes that are told of the tree are those that the space tells
   pub nodes_are : file_told.told_nodes (letters g.mounted) s.tree ≡ space.told_nodes g.mounted st.tree st.files
   nodes_are = ap (λ name. file_told.told_in (letters g.mounted) name s.tree.nodes) i.name
       ∙ told_alike tape (letters g.mounted) (root_name g.mounted) st.files s.tree i.files
@@ -79,6 +80,7 @@ module _ (tape : Tape) (g : Given) (on : Bool) (st : Standing) (s : Stocked) (i 
       ∙ ap (λ nodes. record (index_at g.mounted (plain_of tape s.tree) st.files generation at part (end + 1) back) { nodes = nodes }) nodes_are
       ∙ ap (λ (t : plain.Tree). record (index_now generation part (end + 1) back) { highest = t.highest }) i.plain
 
+  -- the text of a sync's index is the one that the space tells
   pub text_is : canon (sync_index s.frame s.tree s.layout.ends.dp at) ≡ sync_text g st at
   text_is = ap canon (index_told (s.frame.generation + 1) Dp s.layout.ends.dp s.frame.last_dp
       ∙ ap (λ (f : Frame). index_now (f.generation + 1) Dp (s.layout.ends.dp + 1) f.last_dp) i.frame

@@ -53,6 +53,7 @@ module _ (before next : FileTree) (path : Path) (number : ℕ) (at : Moment) (go
     fresh = λ uid more. held.fresh uid (omega (arith, more, ap (λ (t : plain.Tree). t.highest) removed_now)) ∙ ap no_bytes (sym volume.block_size);
   }
 
+  -- a removal is a step of the tree
   pub removed_step : IsStep (asks.Remove path) at before next
   removed_step = record { plain = done; volume = volume; blocks = adds; lies = λ files held. removed_as files held }
 
@@ -89,6 +90,7 @@ module _ (before next : FileTree) (from to : Path) (at : Moment) (good : IsGood 
       (plain_there whole before path node there)
       (ap (λ (t : plain.Tree). fin.get t.nodes (moved_path from to path)) (sym (done whole)) ∙ plain_there whole next (moved_path from to path) now here)
 
+  -- a rename is a step of the tree
   pub renamed_step : IsStep (asks.Rename from to) at before next
   renamed_step = record {
     plain = done;
@@ -123,9 +125,11 @@ same_nodes before next nodes highest volume = record {
   };
 }
 
+-- a tree is the same as itself
 pub unchanged : (t : FileTree) → IsSameTree t t
 unchanged t = same_nodes t t refl refl (record { name = refl; block_size = refl })
 
+-- a step from a tree that is the same is a step from the other
 pub step_from : (old before next : FileTree) (call : Rattle.plain_tree.specs.declared.calls.Call.Call) (at : Moment) → IsSameTree old before → IsStep call at before next → IsStep call at old next
 step_from old before next call at same step = record {
   plain = λ tape. step.plain tape ∙ ap (λ t. after t call at) (same.plain tape);
@@ -188,6 +192,7 @@ module _ (before next : FileTree) (path : Path) (file : ℕ) (laid : Laid) (chan
             let path_is : q ≡ path = (good_next.valid tape).distinct q path old.0.uid _ _ there_mark here in
             some_same node.number file (sym (number_is next.nodes q node there) ∙ ap (number_at next.nodes) path_is ∙ numbers path file stands)
 
+    -- the files lie as they did, but for the one that changed
     pub changed_as : LieAs (file_changed before path change tape files) next
     changed_as = record {
       lies = λ q node room there is_file. ⊎_elim

@@ -20,10 +20,12 @@ use Rattle.plain_tree.proofs.Validity.{file_mark, rename_target, valid_free}
 use Rattle.plain_tree.proofs.WriteLemmas.{rename_keeps_nodes}
 use Rattle.file_tree.proofs.PathLemmas.{get_here, get_other, gone_other, is_or_not}
 
+-- the uid of what stands at a path, or 0 where nothing does
 abbrev pub uid_in : Option (ℕ × Bool) → ℕ
 uid_in None = 0
 uid_in (Some mark) = mark.0
 
+-- a directory stands at a path
 abbrev pub dir_in : Option (ℕ × Bool) → Bool
 dir_in None = false
 dir_in (Some mark) = mark.1
@@ -39,16 +41,19 @@ changed_mark change keeps p m q = by (fin.get m p) refl
         (λ apart. ap mark_of (get_other m p q (change node) apart))
         (is_or_not p q)
 
+-- a change of a file's bytes leaves which uid stands where
 pub file_marks : (change : List Cell → List Cell) (at : Moment) (p : Path) (m : Nodes) (q : Path) → mark_at (changed_at (file_changed change at) p m) q ≡ mark_at m q
 file_marks change at p m q = changed_mark (file_changed change at) (file_mark change at) p m q
 
 -- ---- a new node
 
+-- a new node leaves which uid stands elsewhere
 pub others_mark : (kind : Kind) (t : Tree) (path : Path) (at : Moment) (q : Path) → q ≢ path → mark_at (with_new kind t path at).nodes q ≡ mark_at t.nodes q
 others_mark kind t path at q apart =
     changed_mark (touched at) (λ n. refl) (parent_of path) (fin.insert t.nodes path (new_node kind (t.highest + 1) at)) q
     ∙ ap mark_of (get_other t.nodes path q (new_node kind (t.highest + 1) at) apart)
 
+-- a new node has the next uid
 pub new_mark : (kind : Kind) (t : Tree) (path : Path) (at : Moment) → mark_at (with_new kind t path at).nodes path ≡ Some (t.highest + 1, is_dir kind)
 new_mark kind t path at =
     changed_mark (touched at) (λ n. refl) (parent_of path) (fin.insert t.nodes path (new_node kind (t.highest + 1) at)) path
@@ -56,12 +61,14 @@ new_mark kind t path at =
 
 -- ---- a node that is gone
 
+-- without a node the others have their uids
 pub left_mark : (t : Tree) (path : Path) (at : Moment) (q : Path) → q ≢ path → mark_at (without t path at).nodes q ≡ mark_at t.nodes q
 left_mark t path at q apart =
     changed_mark (touched at) (λ n. refl) (parent_of path) (fin.remove t.nodes path) q ∙ ap mark_of (gone_other t.nodes path q apart)
 
 -- ---- another length
 
+-- a new length of a file leaves which uid stands where
 pub length_mark : (t : Tree) (path : Path) (n : ℕ) (at : Moment) (q : Path) → mark_at (with_length t path n at).nodes q ≡ mark_at t.nodes q
 length_mark t path n at q =
     elim (eqb n (length (cells_at t.nodes path))) as (λ b. mark_at (cond b t (record t { nodes = changed_at (file_changed (λ cells. resized cells n) at) path t.nodes })).nodes q ≡ mark_at t.nodes q) [
@@ -82,6 +89,7 @@ module _ (t : Tree) (from to : Path) (at : Moment) (valid : IsValid t) (free : r
   moved : HasMoved t (after t (Rename from to) at) from to
   moved = rename_keeps_nodes t from to at valid free
 
+  -- what a rename moves keeps its uid
   pub moved_uid : (p : Path) (n now : Node) → fin.get t.nodes p ≡ Some n → fin.get (after t (Rename from to) at).nodes (moved_path from to p) ≡ Some now → now.uid ≡ n.uid
   moved_uid p n now there here = by (is_at_or_below from p) refl
     where

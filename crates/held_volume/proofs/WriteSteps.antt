@@ -38,6 +38,7 @@ use Rattle.held_volume.proofs.Asks.{cells_long, has_laid}
 use Rattle.held_volume.proofs.TreeSteps.{changed_as}
 use Rattle.held_volume.proofs.Uids.{file_marks}
 
+-- an overlay of a file with new blocks is the step of a write
 pub written_step : (before next : FileTree) (file : ℕ) (new : Extent) (at : Moment) (can : CanWrite before file new) (path : Path) (bytes : List ℕ) → StandsAt before path file
     → refusal_of (plain_of whole before) (asks.Write path new.offset bytes) ≡ None → 1 ≤ length bytes → IsGood before → IsGood next → IsWritten file new at before next
     → NumbersCome (λ p. p) before next → ((laid : Laid) → HasLaid before.nodes file laid → HasLaid next.nodes file (overlaid laid new)) → OthersLie file before next
@@ -61,6 +62,7 @@ wants_by t path file room policy name size end tape good stands has name_is size
     ap (λ n. chooses_ip policy n size) name_is
     ∙ ap (chooses_ip policy (unwrap_or (last_name path) [])) (size_is ∙ ap (λ n. max n end) (sym (cells_long tape t path file room good stands has)))
 
+-- what holds of a success holds where there was no want of memory
 pub is_ok_then : {A : Type 0} (r : Result Unit NoMemory) → false ≡ is_err r → OnOk r A → A
 is_ok_then (Ok done) e h = h
 is_ok_then (Err why) e h = absurd cc

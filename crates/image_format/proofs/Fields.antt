@@ -22,6 +22,7 @@ half_in_order : (c e n : List ℕ) (t : ℕ) → length c ≡ 8 → length e ≡
     → put_field 17 n (put_field 16 (t ∷ []) (put_field 8 e (put_field 0 c (replicate 88 0)))) ≡ c ++ e ++ t ∷ n
 half_in_order c e n t lc le ln = rw (listed 8 c lc, listed 8 e le, listed 71 n ln) refl
 
+-- four fields of a partition written at their offsets stand one behind the other
 pub half_written : (b₁ b₂ b₃ b₄ c e n : List ℕ) (t : ℕ) → length c ≡ 8 → length e ≡ 8 → length n ≡ 71
     → b₁ ≡ put_field 0 c (replicate 88 0) → b₂ ≡ put_field 8 e b₁ → b₃ ≡ put_field 16 (t ∷ []) b₂ → b₄ ≡ put_field 17 n b₃
     → b₄ ≡ c ++ e ++ t ∷ n
@@ -32,6 +33,7 @@ value_in_order : (s v i d : List ℕ) → length s ≡ 8 → length v ≡ 8 → 
     → put_field 104 d (put_field 16 i (put_field 8 v (put_field 0 s (replicate 255 0)))) ≡ s ++ v ++ i ++ d ++ replicate 63 0
 value_in_order s v i d ls lv li ld = rw (listed 8 s ls, listed 8 v lv, listed 88 i li, listed 88 d ld) refl
 
+-- four fields of a value written at their offsets stand one behind the other
 pub value_written : (b₁ b₂ b₃ b₄ s v i d : List ℕ) → length s ≡ 8 → length v ≡ 8 → length i ≡ 88 → length d ≡ 88
     → b₁ ≡ put_field 0 s (replicate 255 0) → b₂ ≡ put_field 8 v b₁ → b₃ ≡ put_field 16 i b₂ → b₄ ≡ put_field 104 d b₃
     → b₄ ≡ s ++ v ++ i ++ d ++ replicate 63 0
@@ -45,6 +47,7 @@ pub record Parts (s v i d : List ℕ) : Type 0 where
   pub ip : slice_range (s ++ v ++ i ++ d ++ replicate 63 0) 16 104 ≡ i
   pub dp : slice_range (s ++ v ++ i ++ d ++ replicate 63 0) 104 192 ≡ d
 
+-- what each field of a value reads as
 pub parts : (s v i d : List ℕ) → length s ≡ 8 → length v ≡ 8 → length i ≡ 88 → length d ≡ 88 → Parts s v i d
 parts s v i d ls lv li ld =
     let es = listed 8 s ls in
@@ -59,5 +62,6 @@ parts s v i d ls lv li ld =
       dp = rw (es, ev, ei, ed) refl;
     }
 
+-- a number written in eight bytes is read again
 pub number_back : (n : ℕ) (bytes : List ℕ) → n < 2 ^ 64 → bytes ≡ to_be_bytes w64 n → n ≡ from_be_bytes w64 bytes
 number_back n bytes fits e = sym (ap (from_be_bytes w64) e ∙ from_be_bytes-to_be_bytes_8 n fits)

@@ -17,6 +17,7 @@ use Rattle.image_format.specs.Records.{HasNone, IsHead, behind, first_item, head
 in_range : (n : ℕ) → 1 ≤ n → n ≤ 1048576 → is_in_range 1 1048576 n ≡ true
 in_range n low high = and_from (nat_le 1 n) (nat_le n 1048576) (le-leb 1 n low) (le-leb n 1048576 high)
 
+-- the bytes of a head are read as that head
 pub head_found : (h : Head) → IsHead h → head_of (head_bytes h) ≡ Some h
 head_found (Block n) is =
     let back : from_be_bytes w32 (to_be_bytes w32 n) ≡ n = from_be_bytes-to_be_bytes_4 n (omega (arith, is.1)) in
@@ -87,6 +88,7 @@ five (b ∷ rest) h are long e =
     (from_be_bytes w32 (take 4 rest) == 0) refl refl refl refl refl is e in
     (s.bytes, s.form)
 
+-- bytes that are read as a head are its bytes
 pub head_only : (bytes : List ℕ) (h : Head) → AreBytes bytes → head_of bytes ≡ Some h → (bytes ≡ head_bytes h) × IsHead h
 head_only bytes h are e =
     let p = if_five (length bytes == 5) (head_by (slice_index bytes 0) (from_be_bytes w32 (slice_range bytes 1 5))) h e in
@@ -108,6 +110,7 @@ is_head (item.Block bytes) is = is
 is_head item.Mark is = tt
 is_head item.Torn is = tt
 
+-- a record is five bytes longer than what follows its head
 pub width_is : (x : Item) → width x ≡ 5 + size_of (head_for x)
 width_is (item.Block bytes) = omega arith
 width_is item.Mark = refl
@@ -123,6 +126,7 @@ item_found (item.Block bytes) more is =
 item_found item.Mark more is = refl
 item_found item.Torn more is = refl
 
+-- behind a record stands what follows it
 pub behind_found : (x : Item) (more : List ℕ) → behind (Some x) (record_bytes x ++ more) ≡ more
 behind_found x more = drop_at (record_bytes x) more (width x) refl
 
@@ -174,6 +178,7 @@ first_by bytes x (Some (Block n)) are eo e =
         ∙ ap (λ (l : List ℕ). (66 ∷ to_be_bytes w32 n) ++ l) body
         ∙ ap (λ (k : ℕ). (66 ∷ to_be_bytes w32 k) ++ (take n (drop 5 bytes) ++ behind (Some (item.Block (take n (drop 5 bytes)))) bytes)) (sym size)
 
+-- bytes that are read as beginning with an item begin with its record
 pub item_only : (bytes : List ℕ) (x : Item) → AreBytes bytes → first_item bytes ≡ Some x → IsFirst bytes x
 item_only bytes x are e = first_by bytes x (head_of (take 5 bytes)) are refl e
 
@@ -185,6 +190,7 @@ none_found bytes are none = by (first_item bytes) refl
     by None e = e
     by (Some x) e = let f = item_only bytes x are e in absurd (none x (behind (Some x) bytes) f.form f.is)
 
+-- where no item is read in front, no whole record stands there
 pub none_only : (bytes : List ℕ) → first_item bytes ≡ None → HasNone bytes
 none_only bytes e x more is same =
     let found : first_item bytes ≡ Some x = ap first_item same ∙ item_found x more is in

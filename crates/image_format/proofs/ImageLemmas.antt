@@ -39,6 +39,7 @@ fits_only : (n cap : ℕ) (t : Bool) → (if t then nat_lt n cap else nat_le n c
 fits_only n cap true e = omega (arith, ltb-true n cap e)
 fits_only n cap false e = omega (arith, leb-true n cap e)
 
+-- what a header says in form is read of it
 pub header_found : (limits : Limits) (cm : List ℕ) (s : SlotValue) → IsHeader limits cm s → header limits cm ≡ Some s
 header_found limits cm s is =
     ap (header_by limits) (value_chosen cm is.raw is.counts)
@@ -71,6 +72,7 @@ module _ (limits : Limits) (cm : List ℕ) (s : SlotValue) where
   if_counted None eo e = absurd (cc e)
   if_counted (Some raw) eo e = if_value raw (value_of raw) eo refl e
 
+  -- what is read of a header, it says in form
   pub header_only : header limits cm ≡ Some s → IsHeader limits cm s
   header_only e = if_counted (chosen cm) refl e
 
@@ -111,6 +113,7 @@ module _ (limits : Limits) (d : Files) (bytes_ip : AreBytes d.ip) (bytes_dp : Ar
   no_header None e lacks = refl
   no_header (Some s) e lacks = absurd (lacks s (header_only limits d.cm s e))
 
+  -- what may be said of a disk is what is found of it
   pub said_found : (r : Result Cartridge Refusal) → IsSaid limits d r → image limits d ≡ r
   said_found (Ok c) (inl (is, same)) =
       ap (λ (t : Bool). if t then Ok blank else image_by d (header limits d.cm)) (blank_found d is) ∙ ap opened_as (sym same)
@@ -155,5 +158,6 @@ module _ (limits : Limits) (d : Files) (bytes_ip : AreBytes d.ip) (bytes_dp : Ar
   said_by false e =
       said_header (header limits d.cm) (λ is. absurd (let bad : true ≡ false = sym (blank_found d is) ∙ e in cc bad)) refl
 
+  -- what is found of a disk is what may be said of it
   pub said_only : (r : Result Cartridge Refusal) → image limits d ≡ r → IsSaid limits d r
   said_only r e = subst (λ (x : Result Cartridge Refusal). IsSaid limits d x) e (said_by (is_blank d) refl)

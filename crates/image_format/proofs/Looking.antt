@@ -70,6 +70,7 @@ then_over first second = record {
 }
 
 module _ {B : Type 0} (disk : Ghosts B) where
+  -- where no command is done, the disk was only looked at
   pub no_looks : (s : View B) → disk.commands s.disk ≤ 2 ^ 64 - 1 → Looks disk 0 s s
   no_looks s most = record {
     over = no_change s;
@@ -88,6 +89,7 @@ module _ {B : Type 0} (disk : Ghosts B) where
     reads = one_read counts_now done.count done.crash;
   }
 
+  -- commands that only look, one behind the other, only look
   pub then_looks : (m n : ℕ) (a b c : View B) → Looks disk m a b → Looks disk n b c → Looks disk (m + n) a c
   then_looks m n a b c first second = record {
     over = then_over first.over second.over;
@@ -96,6 +98,7 @@ module _ {B : Type 0} (disk : Ghosts B) where
     reads = then_reads first.reads second.reads;
   }
 
+  -- what looks with so many commands looks with more at most
   pub more_looks : (m n : ℕ) (a b : View B) → m ≤ n → Looks disk m a b → Looks disk n a b
   more_looks m n a b le looks =
       record { over = looks.over; held = looks.held; faults = looks.faults; reads = more_reads le looks.reads }

@@ -13,6 +13,7 @@ use Rattle.image_format.specs.Records.{head_by, head_of, item_by, width}
 use Rattle.image_format.specs.Walks.{HasHeadAt, Shows, rest_of, width_at, width_of, width_within}
 use Rattle.image_format.proofs.HeadLemmas.{width_is}
 
+-- a piece of a front of a file is that piece of the file
 pub inside : (k m n : ℕ) (xs : List ℕ) → k + m ≤ n → take m (drop k (take n xs)) ≡ take m (drop k xs)
 inside k m n xs le =
     let whole : k + (n - k) ≡ n = omega (arith, le) in
@@ -58,6 +59,7 @@ width_told (Some (Block n)) rest le =
 left_is : (file : List ℕ) (at end : ℕ) → end ≤ length file → length (rest_of at end file) ≡ end - at
 left_is file at end le = omega (arith, le, length-drop at (take end file), length-take end file)
 
+-- the width of a record is told by its head, where that is in the piece in memory
 pub told_width : (file : List ℕ) (w : Window) (at end : ℕ) (head : Option Head) → end ≤ length file → at + 5 ≤ end → Shows file w → HasHeadAt at w
     → head ≡ head_of (bytes_at (at - w.from) 5 w.bytes.items) → width_within (end - at) head ≡ width_at at end file
 told_width file w at end head le five shows lies is =
@@ -66,6 +68,7 @@ told_width file w at end head le five shows lies is =
     ∙ ap (λ (o : Option Head). width_within (length (rest_of at end file)) o) (is ∙ ap head_of (seen file w at end five shows lies))
     ∙ width_told (head_of (take 5 (rest_of at end file))) (rest_of at end file) (omega (arith, left, five))
 
+-- where fewer than five bytes are left, no record has a width
 pub told_short : (file : List ℕ) (at end : ℕ) → end ≤ length file → end - at < 5 → None ≡ width_at at end file
 told_short file at end le short =
     sym (ap (λ (t : Bool). width_of (item_by (if t then head_by (slice_index (take 5 (rest_of at end file)) 0) (from_be_bytes w32 (slice_range (take 5 (rest_of at end file)) 1 5)) else None) (drop 5 (rest_of at end file))))

@@ -24,12 +24,14 @@ refused_by why = Err why
 
 -- the records of both partitions, one after the other
 module _ (s : SlotValue) (d : Files) where
+  -- a fault on the index partition is the first one at fault
   pub first_faulty : (T S : Type 0) (why : ReadErr) (offsets : List ℕ) (room : Offsets) → IsFoundIn {T = S} Ip s.ip d.ip (Err why) offsets
       → AreSought {T = T} s d (Err why) room
   first_faulty T S (Refused why) offsets room found =
       ap (λ (r : Result (List Item) ℕ). joined s r (items_in s.dp d.dp)) found.2 ∙ ap refused_by (sym found.1)
   first_faulty T S Disk offsets room found = tt
 
+  -- where the index partition's records are found, the data partition decides
   pub both_sought : (T S : Type 0) (end : Result T ReadErr) (one : S) (mid new : Offsets) → IsFoundIn {T = S} Ip s.ip d.ip (Ok one) mid.ip
       → KeepsOther Dp mid new → IsFoundIn Dp s.dp d.dp end new.dp → AreSought s d end new
   both_sought T S (Ok x) one mid new first kept second =
@@ -49,6 +51,7 @@ module _ (limits : Limits) (d : Files) (raw : List ℕ) (has : HasValue d.cm raw
   not_blank true = refl
   not_blank false = refl
 
+  -- the header of a disk with a value says what that value says
   pub header_is : (o : Option SlotValue) → o ≡ header_by limits (Some raw) → IsHeaderOf limits d o
   header_is o e = record {
     header = is_said o e;
@@ -61,6 +64,7 @@ module _ (limits : Limits) (d : Files) (raw : List ℕ) (has : HasValue d.cm raw
 
 -- and then the records
 module _ (limits : Limits) (d : Files) (s : SlotValue) (said : IsHeaderOf limits d (Some s)) where
+  -- a header and all records that are found are what is read of the disk
   pub read_found : (T : Type 0) (one : T) (room : Offsets) → AreSought s d (Ok one) room → IsRead limits d (Ok s) room
   read_found T one room (ip, dp, found) = (
     ip,
@@ -72,10 +76,12 @@ module _ (limits : Limits) (d : Files) (s : SlotValue) (said : IsHeaderOf limits
         ∙ ap (λ (r : Result (List Item) ℕ). joined s (Ok ip) r) found.in_dp,
   )
 
+  -- a record at fault is why nothing is read of the disk
   pub read_refused : (T : Type 0) (why : ReadErr) (room : Offsets) → AreSought {T = T} s d (Err why) room → IsRead limits d (Err why) room
   read_refused T (Refused why) room found = said.image ∙ found
   read_refused T Disk room found = tt
 
+-- why nothing was read is told as before, whatever the header's reason may be
 pub blamed : (P : Type 0) (before now : ℕ) (why : ReadErr) → IsBlamed ⊥ before now why → IsBlamed P before now why
 blamed P before now (Refused Header) why = absurd why
 blamed P before now (Refused (Record part n)) why = tt

@@ -17,9 +17,11 @@ use Rattle.image_format.proofs.HeadLemmas.{behind_found, item_found, item_only, 
 abbrev pub got : List Item → Result (List Item) ℕ
 got items = Ok items
 
+-- the record of this number is at fault
 abbrev pub bad : ℕ → Result (List Item) ℕ
 bad n = Err n
 
+-- no items in front of a result leave it as it is
 pub in_front_none : (r : Result (List Item) ℕ) → in_front [] r ≡ r
 in_front_none (Ok more) = refl
 in_front_none (Err n) = refl
@@ -132,6 +134,7 @@ broken_only (suc n) at k bytes are e =
     broken_by n at k bytes (first_item bytes) (first_items n (at + 1) (behind (first_item bytes) bytes)) are
     (λ l m all is. broken_only n (at + 1) m l all is) refl refl e
 
+-- where an item is wanted and none stands in front, its number is at fault
 pub first_none : (k at : ℕ) (rest : List ℕ) → 1 ≤ k → first_item rest ≡ None → first_items k at rest ≡ Err at
 first_none zero at rest le e = absurd (omega (arith, le))
 first_none (suc k) at rest le e =
@@ -143,10 +146,12 @@ all_found : (items : List Item) (n : ℕ) (rest : List ℕ) → length items ≡
 all_found items n rest count all =
     front_found items n 0 0 (length items) rest (omega (arith, count)) (omega arith) all ∙ ap (λ (l : List Item). got l) (append-nil items)
 
+-- items whose records fill what they are to fill are those of the file
 pub when_filled : (h : Half) (items : List Item) → length (flat_map record_bytes items) ≡ h.end → filling h (Ok items) ≡ Ok items
 when_filled h items is =
     ap (λ (t : Bool). if t then got items else Err h.count) (eq-eqb (length (flat_map record_bytes items)) h.end is)
 
+-- items whose records don't fill what they are to fill are at fault behind the last
 pub when_unfilled : (h : Half) (items : List Item) → length (flat_map record_bytes items) ≢ h.end → filling h (Ok items) ≡ Err h.count
 when_unfilled h items is =
     ap (λ (t : Bool). if t then got items else Err h.count) (ne_eqb (length (flat_map record_bytes items)) h.end is)
@@ -196,6 +201,7 @@ behind_bytes : (front rest : List ℕ) → AreBytes (front ++ rest) → AreBytes
 behind_bytes [] rest all = all
 behind_bytes (b ∷ front) rest all = behind_bytes front rest (All-tail (λ (k : ℕ). k < 2 ^ 8) b (front ++ rest) all)
 
+-- a record at fault is found with its number
 pub fault_found : (h : Half) (file : List ℕ) (n : ℕ) → AreBytes file → IsFaultAt h file n → items_in h file ≡ Err n
 fault_found h file n are is = by is.fault
   where
@@ -248,5 +254,6 @@ module _ (h : Half) (file : List ℕ) (n : ℕ) (are : AreBytes file) where
         fault = inl (omega (arith, b.place, b.fewer, same), b.none);
       }
 
+  -- the number that is found is that of a record at fault
   pub fault_only : items_in h file ≡ Err n → IsFaultAt h file n
   fault_only e = fault_by (first_items h.count 0 (take h.end file)) refl e

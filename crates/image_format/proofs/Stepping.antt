@@ -99,6 +99,7 @@ pub record Going {B : Type 0} (disk : Ghosts B) (first now : View B) (file : Fil
   pub shows : (d : Files) → disk.held first.disk ≡ Some d → Shows (bytes_of file d) w
   pub read : (d : Files) → disk.held first.disk ≡ Some d → HasCome count end (bytes_of file d) number at offsets
 
+-- a walk over heads begins with the first piece of the file
 pub start_going : {B : Type 0} (disk : Ghosts B) (first : View B) (file : File) (count end : ℕ) (w : Window) → IsPiece end w → w.from ≡ 0
     → disk.commands first.disk ≤ 2 ^ 64 - 1 → ((d : Files) → disk.held first.disk ≡ Some d → Shows (bytes_of file d) w)
     → Going disk first first file count end 0 0 w []
@@ -130,9 +131,11 @@ module _ {B : Type 0} (disk : Ghosts B) (first now : View B) (file : File) (coun
       more_looks disk (min (number + 1) (v.from / 65532)) (min count (end / 65532)) first after
       (omega (arith, lt, piece.from)) (later after v further look)
 
+  -- a walk over all records has made no more reads than the file has pieces
   pub end_looks : number ≡ count → Looks disk (min count (end / 65532)) first now
   end_looks is = more_looks disk (min number (w.from / 65532)) (min count (end / 65532)) first now (omega (arith, is, going.piece.from)) going.looks
 
+  -- a walk goes on behind a record whose width is told
   pub goes_on : (after : View B) (v : Window) (k : ℕ) → number < count → IsPiece end v → v.from ≤ at → w.from ≤ v.from → at + k ≤ end
       → ((d : Files) → disk.held now.disk ≡ Some d → Shows (bytes_of file d) v)
       → ((d : Files) → disk.held now.disk ≡ Some d → Some k ≡ width_at at end (bytes_of file d))
@@ -147,10 +150,12 @@ module _ {B : Type 0} (disk : Ghosts B) (first now : View B) (file : File) (coun
     read = λ d held. comes count end (bytes_of file d) number at offsets (going.read d held) k lt (told d (going.looks.held ∙ held));
   }
 
+  -- where no width is told, the record of this number is at fault
   pub at_fault : number < count → ((d : Files) → disk.held now.disk ≡ Some d → None ≡ width_at at end (bytes_of file d))
       → (d : Files) → disk.held first.disk ≡ Some d → first_items count 0 (take end (bytes_of file d)) ≡ Err number
   at_fault lt told d held = faulty count end (bytes_of file d) number at offsets (going.read d held) lt (told d (going.looks.held ∙ held))
 
+  -- a walk over all records has come past each of them
   pub at_end : number ≡ count → (d : Files) → disk.held first.disk ≡ Some d → HasCome count end (bytes_of file d) count at offsets
   at_end is d held = subst (λ (k : ℕ). HasCome count end (bytes_of file d) k at offsets) is (going.read d held)
 
@@ -167,6 +172,7 @@ module _ (h : Half) (file : List ℕ) (end : ℕ) (offsets : List ℕ) (is : end
       ∙ ap (λ (k : ℕ). in_front come.items (first_items k h.count (rest_of at end file))) none
       ∙ ap (λ (l : List Item). got l) (append-nil come.items)
 
+  -- a walk past all records ends where they should, or the count is at fault
   pub told_ended : {T : Type 0} (r : Result T WalkErr) (at : ℕ) → OnOk r (at ≡ h.end) → IfErr r (λ fault. (fault ≡ errors.Record h.count) × (at ≢ h.end))
       → HasCome h.count end file h.count at offsets → IsWalked h file r offsets
   told_ended (Ok t) at ok err come =
@@ -175,6 +181,7 @@ module _ (h : Half) (file : List ℕ) (end : ℕ) (offsets : List ℕ) (is : end
       subst (λ (f : WalkErr). IsWalked {T = T} h file (Err f) offsets) (sym err.0)
       (ap (filling h) (come_items at come) ∙ when_unfilled h come.items (λ same. err.1 (come.place ∙ same)))
 
+  -- a fault that a walk met is the one of the file
   pub told_fault : (T : Type 0) (fault : WalkErr) → HasWalked h.count end file (Err fault) offsets → IsWalked {T = T} h file (Err fault) offsets
   told_fault T (errors.Record n) walked = ap (λ (l : List ℕ). filling h (first_items h.count 0 l)) (sym same_front) ∙ ap (filling h) walked
   told_fault T errors.Disk walked = tt

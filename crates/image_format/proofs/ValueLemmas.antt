@@ -78,6 +78,7 @@ half_only raw h e = half_only_by raw h (flag_in (slice_index raw 16)) (flag_in (
 abbrev value_with : List ℕ → Half → Half → SlotValue
 value_with raw ip dp = record { serial = number_at raw 0; vcr = number_at raw 8; ip = ip; dp = dp }
 
+-- what a value says by its fields is read of its bytes
 pub value_found : (raw : List ℕ) (s : SlotValue) → IsValue raw s → value_of raw ≡ Some s
 value_found raw s is =
     let same : value_with raw s.ip s.dp ≡ s = λ t. record { serial = sym is.serial t; vcr = sym is.vcr t; ip = s.ip; dp = s.dp } in
@@ -100,6 +101,7 @@ value_only_by raw s (Some ip) (Some dp) long ea eb e =
       dp = half_only (slice_range raw 104 192) dp eb;
     })
 
+-- what is read of 255 bytes is what they say by their fields
 pub value_only : (raw : List ℕ) (s : SlotValue) → length raw ≡ 255 → value_of raw ≡ Some s → IsValue raw s
 value_only raw s long e =
     value_only_by raw s (half_of (slice_range raw 16 104)) (half_of (slice_range raw 104 192)) long refl refl e
@@ -126,6 +128,7 @@ half_reads h is = record {
 half_length : (h : Half) → IsSizedHalf h → length (half_bytes h) ≡ 88
 half_length h is = omega (arith, note_length h.note is.note)
 
+-- the bytes of a value with fields in range say that value
 pub value_reads : (s : SlotValue) → IsSized s → IsValue (value_bytes s) s
 value_reads s is =
     let h = parts (to_be_bytes w64 s.serial) (to_be_bytes w64 s.vcr) (half_bytes s.ip) (half_bytes s.dp) refl refl (half_length s.ip is.ip) (half_length s.dp is.dp) in

@@ -38,6 +38,7 @@ served_on t s done job jobs w served = record {
   covered = λ front behind is due. served.covered (job ∷ front) behind (ap (λ (l : List Job). job ∷ l) is) (omega (arith, due));
 }
 
+-- once the first job is done, the syncs that wait are still served by the others
 pub waiting_on : (t : Trees) (s : Made) (done : ℕ) (job : Job) (jobs : List Job) (waits : List Wait) → AllByRecursion (IsServed t s done (job ∷ jobs)) waits
     → AllByRecursion (IsServed t (makes job s) (done + 1) jobs) waits
 waiting_on t s done job jobs [] all = tt
@@ -70,6 +71,7 @@ module _ (v : Volume) (t : Trees) (s : Made) (since : ℕ) (d : Moment) (done : 
         (fine v t (plan_of s jobs) s.base k.sound.grounded c (k.images c (only_now short c left)).0);
   }
 
+  -- a sync whose jobs are done and that is answered is held from then on
   pub kept_acked : w.due ≡ done → (d.commands < 2 ^ 64 - 1 → (c : Cartridge) → d.left d.commands c → d.leaves c)
       → Kept v t s since d done jobs (front ++ behind) (acks ++ record { place = w.place; command = d.commands } ∷ [])
   kept_acked due only_now =

@@ -54,6 +54,7 @@ served_last t s done jobs same = record {
 
 -- ---- what is kept
 
+-- where all is kept, what the jobs lead to is sound
 pub kept_sound : (v : Volume) (t : Trees) (s : Made) (since : ℕ) (d : Moment) (done : ℕ) (jobs : List Job) (waits : List Wait) (acks : List Ack)
     → Kept v t s since d done jobs waits acks → IsSound v t (plan_of s jobs) (after s jobs)
 kept_sound v t s since d done jobs waits acks k = sound_after v t (plan_of s jobs) jobs s k.sound k.safe
@@ -88,6 +89,7 @@ kept_more v t s since d done jobs more waits acks made k l =
       acked = k.acked;
     }
 
+-- more jobs that may be done leave the volume served
 pub serves_more : (v : Volume) (t : Trees) (s : Made) (since : ℕ) (d : Moment) (done : ℕ) (jobs more : List Job) (waits : List Wait) (acks : List Ack) (made : Made) (space : Space)
     → Kept v t s since d done jobs waits acks → LeadsTo v t (cartridge_of made) (after s jobs) more made → IsPlanned t made space
     → Serves v t s since d done (jobs ++ more) waits acks space

@@ -27,11 +27,13 @@ use Rattle.image_laws.proofs.Longer.{after_append, image_has_index, indexes_long
 
 -- ---- a partition on which no index stands in the way of the next item
 
+-- the items of a partition that may be written on: whole, with labels, and nowhere bad
 pub record IsOpened (items : List Item) : Type 0 where
   pub whole : front items ≡ items
   pub labels : 4 ≤ length items
   pub good : (at : ℕ) → (content items).phase ≢ Bad at
 
+-- items that are nowhere bad have the form of a partition
 pub form_of : (items : List Item) → ((at : ℕ) → (content items).phase ≢ Bad at) → HasForm items
 form_of items good =
     ⊎_elim
@@ -39,6 +41,7 @@ form_of items good =
     (λ (l : (at : ℕ) × LacksForm items at). absurd (good l.0 (stops items l.0 l.1)))
     (either items)
 
+-- a partition that may be written on has at least four items in its front
 pub opened_long : (items : List Item) → IsOpened items → 4 ≤ length (front items)
 opened_long items o = subst (λ (l : List Item). 4 ≤ length l) (sym o.whole) o.labels
 
@@ -102,6 +105,7 @@ pub data_opened : (items : List Item) (since : ℕ) → front items ≡ items �
 data_opened items since whole labels is =
     record { whole = whole; labels = labels; good = λ at bad. let no : Data since ≡ Bad at = sym is ∙ bad in cc no }
 
+-- a mark behind data makes no index whole
 pub quiet_mark : (items : List Item) (since : ℕ) → front items ≡ items → 4 ≤ length items → (content items).phase ≡ Data since
     → IsQuiet items Mark
 quiet_mark items since whole labels is =
@@ -156,6 +160,7 @@ ip_quiet v plan b ip x none free q i =
     (take-append-le b.sure ip (x ∷ []) long ∙ i.agrees)
     (omega (arith, i.further, q.further free))
 
+-- an item that makes no index whole, put at the end of a partition, leaves it sound
 pub sound_put : (v : Volume) (t : Trees) (plan : Cartridge) (part : Part) (x : Item) (s : Made) → MayWrite part s.base → IsFree part s
     → IsQuiet (part_items part s) x → IsSound v t plan s → IsSound v t plan (put_on part x None s)
 sound_put v t plan Ip x s may free q h =
@@ -169,10 +174,12 @@ sound_put v t plan Dp x s may free q h = record {
 
 -- ---- jobs that lead from one state to another
 
+-- jobs may be done one after the other, and what they make is this
 pub record LeadsTo (v : Volume) (t : Trees) (plan : Cartridge) (s : Made) (jobs : List Job) (made : Made) : Type 0 where
   pub safe : AreSafe v t plan s jobs
   pub to : after s jobs ≡ made
 
+-- jobs that lead somewhere, and more that lead on, lead all the way
 pub leads_append : (v : Volume) (t : Trees) (plan : Cartridge) (a b c : Made) (first second : List Job)
     → LeadsTo v t plan a first b → LeadsTo v t plan b second c → LeadsTo v t plan a (first ++ second) c
 leads_append v t plan a b c first second l m = record {
@@ -182,10 +189,12 @@ leads_append v t plan a b c first second l m = record {
 
 -- ---- a run of blocks
 
+-- what was made, with other items on one partition
 abbrev pub with_items : Part → List Item → Made → Made
 with_items Ip items s = record { ip = items; dp = s.dp; last = s.last; base = s.base }
 with_items Dp items s = record { ip = s.ip; dp = items; last = s.last; base = s.base }
 
+-- the ops that put blocks on a partition, one behind the other from a position
 abbrev pub puts_from : Part → ℕ → List (List ℕ) → List Op
 puts_from part pos [] = []
 puts_from part pos (b ∷ bs) = ops.Put (record { part = part; pos = pos }) b ∷ puts_from part (pos + 1) bs
@@ -198,6 +207,7 @@ puts_run f part pos a (suc n) =
     ap (λ (l : List Op). ops.Put (record { part = part; pos = pos + a }) (f a) ∷ l)
     (puts_run f part pos (a + 1) n ∙ ap (λ (p : ℕ). puts_from part p (map f (range_with_len (a + 1) n))) at)
 
+-- the puts of a document are those of its blocks
 pub puts_are : (size : ℕ) (part : Part) (pos : ℕ) (doc : List ℕ) → puts size part pos doc ≡ puts_from part pos (blocks_of size doc)
 puts_are size part pos doc =
     let at : pos + 0 ≡ pos = omega arith in
@@ -224,6 +234,7 @@ with_both : (part : Part) (x : Item) (more : List Item) (s : Made)
 with_both Ip x more s = ap (λ (l : List Item). with_items Ip l s) (append_assoc s.ip (x ∷ []) more)
 with_both Dp x more s = ap (λ (l : List Item). with_items Dp l s) (append_assoc s.dp (x ∷ []) more)
 
+-- a run of puts leaves its blocks at the end of the partition
 pub run_makes : (part : Part) (bs : List (List ℕ)) (pos : ℕ) (s : Made)
     → after s (map plain (puts_from part pos bs)) ≡ with_items part (part_items part s ++ map Block bs) s
 run_makes part [] pos s = with_none part s
@@ -246,6 +257,7 @@ run_safe v t plan part (b ∷ bs) pos s at may free o sound =
       run_safe v t plan part bs (pos + 1) s1 at1 (may_still part (Block b) s may) (free_still part (Block b) s free q) o1 sound1,
     )
 
+-- blocks put at the end of a partition lead soundly to one that has them
 pub run : (v : Volume) (t : Trees) (plan : Cartridge) (part : Part) (bs : List (List ℕ)) (pos : ℕ) (s : Made) → pos ≡ length (part_items part s)
     → MayWrite part s.base → IsFree part s → IsOpened (part_items part s) → IsSound v t plan s
     → LeadsTo v t plan s (map plain (puts_from part pos bs)) (with_items part (part_items part s ++ map Block bs) s)

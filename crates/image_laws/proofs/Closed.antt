@@ -121,6 +121,7 @@ module _ (c : Cartridge) (l : Labels) (last index : Index) (h : EndsWithClose c 
     dp_tree = dp_tree;
   }
 
+  -- a note with the values of the index partition's last index tells of that index
   pub close_ip_note : (note : Coherency) → note.generation ≡ index.generation
       → index.here ≡ record { letter = letter_of l.ip Ip; block = note.block } → TellsOfLast c l.ip Ip note
   close_ip_note note generation here = record {
@@ -132,13 +133,16 @@ module _ (c : Cartridge) (l : Labels) (last index : Index) (h : EndsWithClose c 
         ∙ ap (λ (spot : Spot). Some spot.block) (sym h.here ∙ here);
   }
 
+  -- a note with the values of the data partition's last index tells of that index
   pub close_dp_note : (note : Coherency) → note.generation ≡ last.generation → last_block (indexes_of c.dp) ≡ Some note.block
       → TellsOfLast c l.ip Dp note
   close_dp_note note generation block = record { index = last; last = h.dp_reads; generation = generation; block = block }
 
+  -- where both notes tell of the last indexes, the cartridge is coherent
   pub close_coherent : AreNoted c l.ip → IsCoherent c
   close_coherent noted = noted_coherent c l h.has noted
 
+-- a cartridge that ends with a close's index stands for its tree, consistent and coherent
 pub close_told : (c : Cartridge) (l : Labels) (last index : Index) → EndsWithClose c l last index → CloseStands c l last index
 close_told c l last index h = record {
   stands = close_stands c l last index h;

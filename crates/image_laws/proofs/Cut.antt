@@ -27,6 +27,7 @@ front_is (Torn ∷ xs) (suc n) le = absurd (omega (arith, le))
 front_is (Mark ∷ xs) (suc n) le = ap (λ (l : List Item). Mark ∷ l) (front_is xs n (omega (arith, le)))
 front_is (Block b ∷ xs) (suc n) le = ap (λ (l : List Item). Block b ∷ l) (front_is xs n (omega (arith, le)))
 
+-- what is cut off before the first Torn has no Torn
 pub cut_is_whole : (items : List Item) (n : ℕ) → n ≤ length (front items) → front (take n items) ≡ take n items
 cut_is_whole items n le = front_cut n items ∙ front_is items n le
 
@@ -46,6 +47,7 @@ labels_front (x ∷ y ∷ z ∷ u ∷ rest) bytes more a b c d =
     = ap (λ (l : List Item). front l) (λ t. one t ∷ two t ∷ three t ∷ four t ∷ rest) in
     omega (arith, ap (λ (l : List Item). length l) all)
 
+-- a partition with the record and the label has at least four items in its front
 pub long_front : (items : List Item) (r : _) (l : _) → HasRecord items r → HasLabel items l → 4 ≤ length (front items)
 long_front items r l record_is label_is = labels_front items record_is.bytes label_is.bytes record_is.stands.block record_is.stands.mark label_is.stands.block label_is.stands.mark
 
@@ -53,6 +55,7 @@ not_bad : (at before : ℕ) (lead : List (List ℕ)) (begun : Option (List (List
 not_bad at before lead None = λ bad. cc
 not_bad at before lead (Some begun) = λ bad. cc
 
+-- items that have the form of a partition are nowhere bad
 pub is_good : (items : List Item) → HasForm items → (at : ℕ) → (content items).phase ≢ Bad at
 is_good items h at bad =
     not_bad at (4 + length (flat_map items_of_group h.groups)) h.lead h.begun (sym (ap (λ (c : Content). c.phase) (form items h)) ∙ bad)

@@ -28,9 +28,11 @@ use Rattle.image_laws.proofs.Longer.{IsGrown, sound_longer}
 pub count_is : (size : ℕ) (doc : List ℕ) → length (blocks_of size doc) ≡ div_ceil (length doc) size
 count_is size doc = length-map-range_with_len (block_at size doc) 0 (div_ceil (length doc) size)
 
+-- a partition that is ready for an index may be written on
 pub ready_opened : (items : List Item) → IsReady items → IsOpened items
 ready_opened items r = data_opened items r.since r.whole r.labels r.stage
 
+-- blocks at the end make a partition so much longer
 pub length_more : (items : List Item) (bs : List (List ℕ)) → length (items ++ map Block bs) ≡ length items + length bs
 length_more items bs = omega (arith, length-append items (map Block bs), length-map bs Block)
 

@@ -54,6 +54,7 @@ done_exact part (ops.Mark place) whole s old new next begins done which =
 done_exact part (ops.Flush place) whole s old new next begins done (inl puts) = absurd puts
 done_exact part (ops.Flush place) whole s old new next begins done (inr exact) = flushed_exact part place whole s old new done exact
 
+-- an op on the other partition that fails leaves the end of this one exact
 pub failed_exact : (part : Part) (op : Op) (s : Made) (old new : Cartridge) → ¬ PutsOn part op → IsFailed op old new → IsExact part s old
     → IsExact part s new
 failed_exact part (ops.Put place bytes) s old new other failed exact = rest_exact place.part part s old new other failed.rest exact
@@ -65,5 +66,6 @@ begun_from : (c : Cartridge) (ks : List Construct) → EndsWithLast c.dp ks → 
 begun_from c [] ends = absurd ends
 begun_from c (k ∷ older) ends = take_all (after_of k) c.dp (omega (arith, ends))
 
+-- at the begin the end of the data partition is exact
 pub begun_exact : (c : Cartridge) (on_ip : Option Index) (on_dp : Index) → EndsWithLast c.dp (indexes_of c.dp) → IsExact Dp (made_of c on_ip on_dp) c
 begun_exact c on_ip on_dp ends = sym (begun_from c (indexes_of c.dp) ends)

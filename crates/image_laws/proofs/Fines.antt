@@ -101,6 +101,7 @@ module _ (v : Volume) (t : Trees) (plan : Cartridge) (b : Base) (g : IsGrounded 
         has_index = some_index (indexes_of c.dp) d.more d.split;
       }
 
+  -- an image that a crash may leave is fine for all that was flushed
   pub fine : (c : Cartridge) → IsImage v t plan b c → IsFine v t (least b) c
   fine c image =
       let x = chosen_by (end_dp (indexes_of c.dp)) image.dp.more image.last image.ip.on_ip image.ip.behind (ap end_dp image.dp.split) image.dp.counts in

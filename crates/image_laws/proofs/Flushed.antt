@@ -65,6 +65,7 @@ module _ (v : Volume) (t : Trees) (plan : Cartridge) (s : Made) (held : Cartridg
   on : IsOn s.base.floor s.base.ahead s.last
   on = counts_on v t plan s.base (end_dp (indexes_of held.dp)) reads.image.dp.more s.last counted
 
+  -- a flush covers no fewer placements than the one before it
   pub flush_least : least s.base ≤ least (flushed s)
   flush_least = flush_covers s.base.floor s.last s.base.ahead reads.image.ip.on_ip reads.image.ip.behind on
 
@@ -113,6 +114,7 @@ module _ (v : Volume) (t : Trees) (plan : Cartridge) (s : Made) (held : Cartridg
   pub flush_image : IsImage v t plan (flushed s) held
   flush_image = image_of v t plan (flushed s) held s.last on_ip on_dp reads.image.honest
 
+  -- a cartridge reads after a flush as it did before
   pub flush_reads : (place : Place) (whole : Option CoveredIndex) → ReadsAs v t plan (does (ops.Flush place) whole s) held
   flush_reads place whole = record {
     ip = reads.ip;

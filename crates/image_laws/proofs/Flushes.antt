@@ -31,6 +31,7 @@ abbrev pub IsAbove : CoveredIndex → Option CoveredIndex → Type 0
 IsAbove floor None = Unit {0}
 IsAbove floor (Some ahead) = floor.index.generation < ahead.index.generation
 
+-- an index that is ahead is newer than what was flushed of the data partition
 pub behind_above : (floor : CoveredIndex) (ahead : Option CoveredIndex) (on_ip : Option Index) → IsBehind floor ahead on_ip → IsAbove floor ahead
 behind_above floor None on_ip h = tt
 behind_above floor (Some a) on_ip h = h.1
@@ -78,6 +79,7 @@ newest_stays floor last (Some a) above same =
     (λ (p : IsStill last a). ap (λ (o : Option CoveredIndex). newer_of o last) p.1)
     (still_cases last a)
 
+-- after a flush an index that is still ahead is newer than the last one
 pub flush_above : (s : Made) → IsAbove s.base.floor s.base.ahead → s.last ≡ s.base.floor → IsAbove s.last (still_ahead s.last s.base.ahead)
 flush_above s above same = above_flush s.base.floor s.last s.base.ahead above (inl same)
 
@@ -109,6 +111,7 @@ above_does v t plan (ops.Flush place) whole s h above =
     above_flush s.base.floor s.last s.base.ahead above
     (counts_cases v t plan s.base (end_dp (indexes_of s.dp)) h.dp.more s.last h.dp.counts)
 
+-- jobs leave an index that is ahead newer than what is flushed
 pub above_after : (v : Volume) (t : Trees) (plan : Cartridge) (jobs : List Job) (s : Made) → IsSound v t plan s → AreSafe v t plan s jobs
     → IsAbove s.base.floor s.base.ahead → IsAbove (after s jobs).base.floor (after s jobs).base.ahead
 above_after v t plan [] s sound safe above = above
@@ -117,6 +120,7 @@ above_after v t plan (job ∷ jobs) s sound safe above =
 
 -- ---- what the flushed state tells
 
+-- an index that names only blocks before some ends does so before later ends
 pub tells_further : (v : Volume) (t : Trees) (plan : Cartridge) (ip dp ip2 dp2 : ℕ) (e : CoveredIndex) → ip ≤ ip2 → dp ≤ dp2
     → Tells v t plan ip dp e → Tells v t plan ip2 dp2 e
 tells_further v t plan ip dp ip2 dp2 e le le2 h = record {
@@ -148,6 +152,7 @@ sound_tells v t plan b ks more last split g (inr h) = inr (h.0, h.2)
 
 -- ---- a state that is flushed
 
+-- what was made may be flushed: it is planned, and nothing of the index partition is lost
 pub record CanFlush (plan : Cartridge) (s : Made) : Type 0 where
   pub above : IsAbove s.base.floor s.base.ahead
   pub longer : IsLonger (cartridge_of s) plan
@@ -157,6 +162,7 @@ pub record CanFlush (plan : Cartridge) (s : Made) : Type 0 where
 pub end_long : (items : List Item) → IsOpened items → end_ip (content items) ≤ length items
 end_long items o = omega (arith, end_ip_within items (opened_long items o), front_within items)
 
+-- a flush of what may be flushed leaves it sound
 pub flush_sound : (v : Volume) (t : Trees) (plan : Cartridge) (s : Made) (place : Place) → CanFlush plan s → IsSound v t plan s
     → ((flushed s).ahead ≡ None → IsIpImage v plan (flushed s) s.ip) → IsSound v t plan (does (ops.Flush place) None s)
 flush_sound v t plan s place can h image =
@@ -219,6 +225,7 @@ none_does (ops.Put place bytes) whole s none = none_put place.part (Block bytes)
 none_does (ops.Mark place) whole s none = none_put place.part Mark whole s none
 none_does (ops.Flush place) whole s none = ap (λ (o : Option CoveredIndex). still_ahead s.last o) none
 
+-- where no index is ahead, none is after more jobs
 pub none_stays : (jobs : List Job) (s : Made) → s.base.ahead ≡ None → (after s jobs).base.ahead ≡ None
 none_stays [] s none = none
 none_stays (job ∷ jobs) s none = none_stays jobs (makes job s) (none_does job.op job.whole s none)

@@ -24,6 +24,7 @@ long_enough (suc n) (x ∷ xs) (y ∷ ys) e le =
     let rest : take n xs ≡ take n ys = cc in
     omega (arith, long_enough n xs ys rest (omega (arith, le)))
 
+-- lists that begin alike up to a length begin alike up to a lesser one
 pub front_same : {X : Type 0} (m n : ℕ) (xs ys : List X) → m ≤ n → take n xs ≡ take n ys → take m xs ≡ take m ys
 front_same m n xs ys le e = sym (take-take m n xs le) ∙ ap (λ (l : List _). take m l) e ∙ take-take m n ys le
 
@@ -49,6 +50,7 @@ labels_in_front items first second h k =
     (front_more two (Block second) 1 (tail_get one 0 ∙ tail_get items 1 ∙ k.block) (λ e. cc e)
     (front_more three Mark 0 (tail_get two 0 ∙ tail_get one 1 ∙ tail_get items 2 ∙ k.mark) (λ e. cc e) (omega arith))))
 
+-- a cartridge with labels has at least four items in the front of its data partition
 pub long_dp : (c : Cartridge) (l : Labels) → HasLabels c l → 4 ≤ length (front c.dp)
 long_dp c l h = labels_in_front c.dp h.dp_record.bytes h.dp.bytes h.dp_record.stands h.dp.stands
 
@@ -61,9 +63,11 @@ short_content items lt = ap (λ (l : List Item). fold seen start l) (drop_all 4 
 
 -- ---- a torn item at the end
 
+-- a Torn at the end leaves the form of a partition
 pub form_torn : (items : List Item) → HasForm items → HasForm (items ++ Torn ∷ [])
 form_torn items h = subst (λ (l : List Item). Reading (drop 4 l)) (sym (front_torn items)) h
 
+-- a Torn at the end leaves the indexes as they are
 pub indexes_torn : (items : List Item) → indexes_of (items ++ Torn ∷ []) ≡ indexes_of items
 indexes_torn items = ap (λ (s : Content). s.constructs) (content_torn items)
 
@@ -71,10 +75,12 @@ one_front : (items others : List Item) (ks : List Construct) → front others �
 one_front items others [] e h = tt
 one_front items others (k ∷ older) e h = (h.0, ap (λ (l : List Item). length l) e ∙ h.1)
 
+-- a Torn at the end leaves a partition with one index at most
 pub one_torn : (items : List Item) → IsOneAtMost items (indexes_of items) → IsOneAtMost (items ++ Torn ∷ []) (indexes_of (items ++ Torn ∷ []))
 one_torn items h =
     subst (λ (ks : List Construct). IsOneAtMost (items ++ Torn ∷ []) ks) (sym (indexes_torn items))
     (one_front items (items ++ Torn ∷ []) (indexes_of items) (front_torn items) h)
 
+-- the end of the newest index of a partition that has labels lies within its items
 pub end_within : (items : List Item) → 4 ≤ length (front items) → end_dp (indexes_of items) ≤ length items
 end_within items long = omega (arith, end_dp_within items long, front_within items)

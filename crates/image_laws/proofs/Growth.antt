@@ -63,6 +63,7 @@ module _ (v : Volume) (old new : Trees) (more : GoesOn old new) where
   safe_on plan [] s h = tt
   safe_on plan (job ∷ jobs) s h = (h.0, sound_on plan (makes job s) h.1, safe_on plan jobs (makes job s) h.2)
 
+  -- what is fine for a history is fine for a longer one
   pub fine_on : (from : ℕ) (c : Cartridge) → IsFine v old from c → IsFine v new from c
   fine_on from c h = record {
     place = h.place;
@@ -109,6 +110,7 @@ module _ (v : Volume) (old new : Trees) (more : GoesOn old new) where
     further = h.further;
   }
 
+  -- what is kept for a history is kept for a longer one
   pub kept_on : (s : Made) (since : ℕ) (d : Moment) (done : ℕ) (jobs : List Job) (waits : List Wait) (acks : List Ack)
       → Kept v old s since d done jobs waits acks → Kept v new s since d done jobs waits acks
   kept_on s since d done jobs waits acks h = record {

@@ -29,9 +29,11 @@ pub same_note : (part : Part) (c d : Cartridge) → c.note_ip ≡ d.note_ip → 
 same_note Ip c d ip dp = ip
 same_note Dp c d ip dp = dp
 
+-- notes that are carried over know no greater volume change reference
 pub up_to_carried : (v : Volume) (vcr : ℕ) (c d : Cartridge) → c.note_ip ≡ d.note_ip → c.note_dp ≡ d.note_dp → AreUpTo v vcr d → AreUpTo v vcr c
 up_to_carried v vcr c d ip dp up = λ part note has uuid. up part note (subst (λ n. HasValues n note) (same_note part c d ip dp) has) uuid
 
+-- notes that know no greater reference than one know none greater than a later one
 pub up_to_more : (v : Volume) (vcr more : ℕ) (c : Cartridge) → vcr ≤ more → AreUpTo v vcr c → AreUpTo v more c
 up_to_more v vcr more c le up = λ part note has uuid. omega (arith, le, up part note has uuid)
 
@@ -84,6 +86,7 @@ at_ends Q x good new one two three (inl (inl e)) = subst Q (sym e) one
 at_ends Q x good new one two three (inl (inr e)) = subst Q (sym e) two
 at_ends Q x good new one two three (inr e) = subst Q (sym e) three
 
+-- an index partition that a crash may leave may have a Torn at its end
 pub ip_torn : (v : Volume) (plan : Cartridge) (b : Base) (ip : List Item) → b.sure ≤ length ip → IsIpImage v plan b ip → IsIpImage v plan b (ip ++ Torn ∷ [])
 ip_torn v plan b ip le i = record {
   form = form_torn ip i.form;
@@ -95,6 +98,7 @@ ip_torn v plan b ip le i = record {
   further = subst (λ (s : Content). b.sure ≤ end_ip s) (sym (content_torn ip)) i.further;
 }
 
+-- a data partition that a crash may leave may have a Torn at its end
 pub dp_torn : (v : Volume) (t : Trees) (plan : Cartridge) (b : Base) (dp : List Item) (last : CoveredIndex) → 4 ≤ length (front dp) → IsDpImage v t plan b dp last
     → IsDpImage v t plan b (dp ++ Torn ∷ []) last
 dp_torn v t plan b dp last long d =
@@ -118,6 +122,7 @@ module _ (v : Volume) (t : Trees) (plan : Cartridge) (b : Base) (g : IsGrounded 
   pub sure_within : (ip : List Item) → IsIpImage v plan b ip → b.sure ≤ length ip
   sure_within ip i = long_enough b.sure ip plan.ip i.agrees g.on_ip
 
+  -- a data partition that a crash may leave has at least four items in its front
   pub front_of_dp : (dp : List Item) (last : CoveredIndex) → IsDpImage v t plan b dp last → 4 ≤ length (front dp)
   front_of_dp dp last d =
       let c : Cartridge = record { ip = plan.ip; dp = dp; vcr = plan.vcr; note_ip = plan.note_ip; note_dp = plan.note_dp } in

@@ -38,9 +38,11 @@ use Rattle.image_laws.proofs.Longer.{after_append, sound_after, sound_longer, te
 
 -- ---- the text of an index in its blocks
 
+-- the blocks of a text together are that text
 pub joined : (size : ℕ) (text : List ℕ) → 1 ≤ size → concat (blocks_of size text) ≡ text
 joined size text some = (cut_in_one_way.cut size text some).joined
 
+-- a text that isn't empty has a block
 pub some_blocks : (size : ℕ) (text : List ℕ) → 1 ≤ size → 1 ≤ length text → blocks_of size text ≢ []
 some_blocks size text some long none =
     omega (arith, long, ap (λ (l : List ℕ). length l) (sym (joined size text some)), ap (λ (bs : List (List ℕ)). length (concat bs)) none)
@@ -51,19 +53,23 @@ some_blocks size text some long none =
 abbrev pub with_construct : List Item → List (List ℕ) → List Item
 with_construct items bs = items ++ Mark ∷ [] ++ map Block bs ++ Mark ∷ []
 
+-- an index construct is a mark, its blocks and a mark behind the items
 pub construct_is : (items : List Item) (bs : List (List ℕ)) → with_construct items bs ≡ items ++ (Mark ∷ (map Block bs ++ Mark ∷ []))
 construct_is items bs =
     ap (λ (l : List Item). l ++ Mark ∷ []) (append_assoc items (Mark ∷ []) (map Block bs))
     ∙ append_assoc items (Mark ∷ map Block bs) (Mark ∷ [])
 
+-- the index construct that stands behind some items, with these blocks
 abbrev pub new_construct : List Item → List (List ℕ) → Construct
 new_construct items bs = record { mark = length items; blocks = bs }
 
+-- a partition that was ready reads with a new index as it did and one index more
 pub construct_content : (items : List Item) (bs : List (List ℕ)) → IsReady items → bs ≢ []
     → content (with_construct items bs) ≡ in_data (length items + length bs + 2) 0 (new_construct items bs ∷ indexes_of items)
 construct_content items bs r some =
     ap content (construct_is items bs) ∙ index_appended items bs r.since r.whole r.labels r.stage some
 
+-- an index construct makes a partition longer by its blocks and two marks
 pub construct_long : (items : List Item) (bs : List (List ℕ)) → length (with_construct items bs) ≡ length items + length bs + 2
 construct_long items bs = omega (
   arith,
@@ -72,6 +78,7 @@ construct_long items bs = omega (
   length-append items (Mark ∷ []),
 )
 
+-- with a new index a partition is ready for the next one
 pub construct_ready : (items : List Item) (bs : List (List ℕ)) → IsReady items → bs ≢ [] → IsReady (with_construct items bs)
 construct_ready items bs r some = record {
   whole =
@@ -84,6 +91,7 @@ construct_ready items bs r some = record {
   stage = ap (λ (s : Content). s.phase) (construct_content items bs r some);
 }
 
+-- the spot of the last index is that of the last block that begins one
 pub spot_named : (label : Label) (ks : List Construct)
     → option_map (λ (block : ℕ). record { letter = letter_of label Dp; block = block }) (last_block ks) ≡ newest_spot label ks
 spot_named label [] = refl
@@ -101,6 +109,7 @@ new_last label items bs index r some reads uuid here back =
       record { here = here; back = back },
     )
 
+-- a partition with a new index ends with that index
 pub ends_with_new : (items : List Item) (bs : List (List ℕ)) → IsReady items → bs ≢ []
     → EndsWithLast (with_construct items bs) (indexes_of (with_construct items bs))
 ends_with_new items bs r some =
@@ -193,6 +202,7 @@ module _ (v : Volume) (t : Trees) (s : Made) (space : Space) (rules : Rules) (te
   can_first : CanFlush plan s
   can_first = record { above = above; longer = longer; opened = opened_ip; sure = omega (arith, sound.grounded.on_ip, end_of_ip) }
 
+  -- the flush that comes first, where one is due, leaves all of the index partition flushed
   pub first : IsFlushed v t plan s (map plain (flush_first space.flush_due space.ends.ip))
   first = flushed_first v t plan s space.flush_due space.ends.ip p.flushed p.indexed can_first p.ready_ip p.no_index sound0
 
@@ -348,6 +358,7 @@ kept_above v t s since d done jobs waits acks k =
     above_after v t (plan_of s jobs) jobs s k.sound k.safe
     (behind_above s.base.floor s.base.ahead k.reads.image.ip.on_ip k.reads.image.ip.behind)
 
+-- an index that is due and admitted leaves the volume served
 pub admitted_index : (v : Volume) (t : Trees) (s : Made) (since : ℕ) (d : Moment) (done : ℕ) (jobs : List Job) (waits : List Wait) (acks : List Ack) (space : Space)
     (rules : Rules) (text : List ℕ) (e : CoveredIndex)
     → Serves v t s since d done jobs waits acks space → IsDue v t (after s jobs) space text e → 1 ≤ rules.block_size

@@ -37,6 +37,7 @@ indexes_long items some = by_rest (readable items) refl
     by_rest [] is = absurd (some (ap (λ (l : List Item). (fold seen start l).constructs) is))
     by_rest (x ∷ rest) is = omega (arith, length-drop 4 (front items), ap (λ (l : List Item). length l) is)
 
+-- the end of the newest index lies within the items where there is an index
 pub end_within : (items : List Item) → indexes_of items ≢ [] → end_dp (indexes_of items) ≤ length items
 end_within items some = omega (arith, end_dp_within items (indexes_long items some), front_within items)
 
@@ -73,6 +74,7 @@ module _ (v : Volume) (t : Trees) (plan longer : Cartridge) (l : IsLonger plan l
     omega (arith, ap (λ (xs : List Item). length xs) l.dp, length-append plan.dp l.more_dp),
   )
 
+  -- an index tells the same tree of a plan that goes on
   pub tells_longer : (ip dp : ℕ) (e : CoveredIndex) → v.labels.ip.index ≢ v.labels.ip.dpart → ip ≤ length plan.ip → dp ≤ length plan.dp
       → Tells v t plan ip dp e → Tells v t longer ip dp e
   tells_longer ip dp e differ le_ip le_dp h = record {
@@ -128,10 +130,12 @@ module _ (v : Volume) (t : Trees) (plan longer : Cartridge) (l : IsLonger plan l
     further = i.further;
   }
 
+  -- an image of a plan is one of a plan that goes on
   abbrev pub image_longer : (b : Base) (c : Cartridge) → IsGrounded v t plan b → IsImage v t plan b c → IsImage v t longer b c
   image_longer b c g i =
       record { ip = ip_longer b c.ip g i.ip; last = i.last; dp = dp_longer b c.dp i.last g i.dp; honest = i.honest }
 
+  -- what is sound of a plan is sound of one that goes on
   pub sound_longer : (s : Made) → IsSound v t plan s → IsSound v t longer s
   sound_longer s h = record {
     grounded = grounded_longer s.base h.grounded;
@@ -139,21 +143,25 @@ module _ (v : Volume) (t : Trees) (plan longer : Cartridge) (l : IsLonger plan l
     ip = λ none. ip_longer s.base s.ip h.grounded (h.ip none);
   }
 
+  -- jobs that are safe for a plan are safe for one that goes on
   pub safe_longer : (jobs : List Job) (s : Made) → AreSafe v t plan s jobs → AreSafe v t longer s jobs
   safe_longer [] s h = tt
   safe_longer (job ∷ jobs) s h = (h.0, sound_longer (makes job s) h.1, safe_longer jobs (makes job s) h.2)
 
 -- ---- jobs one after the other
 
+-- what two lists of jobs make is what the second makes of what the first made
 pub after_append : (jobs more : List Job) (s : Made) → after s (jobs ++ more) ≡ after (after s jobs) more
 after_append [] more s = refl
 after_append (job ∷ jobs) more s = after_append jobs more (makes job s)
 
+-- jobs that are safe lead from what is sound to what is sound
 pub sound_after : (v : Volume) (t : Trees) (plan : Cartridge) (jobs : List Job) (s : Made) → IsSound v t plan s
     → AreSafe v t plan s jobs → IsSound v t plan (after s jobs)
 sound_after v t plan [] s sound safe = sound
 sound_after v t plan (job ∷ jobs) s sound safe = sound_after v t plan jobs (makes job s) safe.1 safe.2
 
+-- jobs that are safe, and more that are safe behind them, are safe together
 pub safe_append : (v : Volume) (t : Trees) (plan : Cartridge) (jobs more : List Job) (s : Made) → AreSafe v t plan s jobs
     → AreSafe v t plan (after s jobs) more → AreSafe v t plan s (jobs ++ more)
 safe_append v t plan [] more s safe rest = rest
@@ -190,10 +198,12 @@ after_longer (job ∷ jobs) s =
     longer_trans (cartridge_of s) (cartridge_of (makes job s)) (cartridge_of (after (makes job s) jobs))
     (does_longer job.op job.whole s) (after_longer jobs (makes job s))
 
+-- with more jobs behind them, what jobs make only grows
 pub plan_longer : (jobs more : List Job) (s : Made) → IsGrown (after s jobs) (after s (jobs ++ more))
 plan_longer jobs more s =
     subst (λ (m : Made). IsGrown (after s jobs) m) (sym (after_append jobs more s)) (after_longer more (after s jobs))
 
+-- what was sound of a plan stays sound where the plan goes on
 pub plans_go_on : (v : Volume) (t : Trees) → PlansGoOn v t
 plans_go_on v t = record {
   images = λ plan longer b c l g. image_longer v t plan longer l b c g;

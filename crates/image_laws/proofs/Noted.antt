@@ -189,6 +189,7 @@ module _ (v : Volume) (t : Trees) (s : Made) (since : ℕ) (d e : Moment) (done 
         up_to_note v t (plan_of s jobs) s d.held k.reads k.notes part note values has vcr tells c n,
       )
 
+  -- what is kept stays kept when a note is written, or when that fails
   pub kept_noted : IsNotedOrNot part note d.held e.held → kept.Kept v t s since e done jobs waits acks
   kept_noted after =
       let w = after_note part note d.held e.held after in

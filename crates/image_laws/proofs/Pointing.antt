@@ -23,6 +23,7 @@ pub below_of : (on_ip : Option Index) (n m : ℕ) → n < m → IfSome on_ip (λ
 below_of None n m lt h = tt
 below_of (Some i) n m lt h = omega (arith, lt, h)
 
+-- an index that isn't newer than one generation isn't newer than a later one
 pub at_most : (on_ip : Option Index) (n m : ℕ) → n ≤ m → IfSome on_ip (λ index. index.generation ≤ n) → IfSome on_ip (λ index. index.generation ≤ m)
 at_most None n m le h = tt
 at_most (Some i) n m le h = omega (arith, le, h)

@@ -81,6 +81,7 @@ module _ (v : Volume) (d : Moment) (since : ℕ) (tree : Tree) (generation : ℕ
   abbrev f : Found c
   f = can.stands.reads.found
 
+  -- a cartridge that is mounted to be served has an index on its data partition
   pub has_last : (index : Index) × (f.on_dp ≡ Some index)
   has_last = last_on_dp f.labels.ip (indexes_of c.dp) f.on_dp can.stands.has_index f.dp_last
 
@@ -314,5 +315,6 @@ module _ (v : Volume) (d : Moment) (since : ℕ) (tree : Tree) (generation : ℕ
     };
   }
 
+  -- a volume that is mounted is served, with no job, no sync and the first space
   pub begins_to_serve : (space : Space) → IsFirstSpace c generation space → Serves v t s since d 0 [] [] [] space
   begins_to_serve space is = record { kept = begins; planned = plans space is }

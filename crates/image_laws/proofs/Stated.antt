@@ -19,6 +19,7 @@ use Rattle.image_laws.proofs.Indexes.{admitted_index, index_served, index_settle
 use Rattle.image_laws.proofs.Noted.{kept_noted, note_may_leave, noted_sure}
 use Rattle.image_laws.proofs.Starts.{begins_to_serve, has_last}
 
+-- each image that a crash may leave is fine
 pub images_are_fine : ImagesAreFine
 images_are_fine = record {
   fine = λ v t plan b grounded c image. fine v t plan b grounded c image;
@@ -28,6 +29,7 @@ images_are_fine = record {
 }
 
 module _ {D : Type 0} (drive : Ghosts D) where
+  -- a mount begins with all that is kept
   pub starts_are_kept : StartsAreKept drive
   starts_are_kept = record {
     serving = λ v d c since tree generation can. (
@@ -37,6 +39,7 @@ module _ {D : Type 0} (drive : Ghosts D) where
     );
   }
 
+  -- each step of the head keeps what is kept
   pub steps_keep : StepsKeep drive
   steps_keep = record {
     done = λ x job jobs old new before now kept is step sure.
@@ -53,6 +56,7 @@ module _ {D : Type 0} (drive : Ghosts D) where
         noted_sure (moment_of drive old before) (moment_of drive new now) pending part note step noted settled;
   }
 
+  -- each admission keeps what is kept
   pub admissions_keep : AdmissionsKeep drive
   admissions_keep = record {
     stored = λ x space d c rules part bytes serving may.
@@ -65,6 +69,7 @@ module _ {D : Type 0} (drive : Ghosts D) where
         admitted_close x.volume x.trees x.made x.since (moment_of drive d c) x.done x.jobs x.waits x.acks space rules text index serving due none size;
   }
 
+  -- a sync that is answered is held
   pub syncs_are_held : SyncsAreHeld drive
   syncs_are_held = record {
     changed = λ x space d c rules text e serving due size.
@@ -73,6 +78,7 @@ module _ {D : Type 0} (drive : Ghosts D) where
         served_unchanged x.volume x.trees x.made x.since (moment_of drive d c) x.done x.jobs x.waits x.acks space serving still;
   }
 
+  -- a history that goes on keeps what is kept
   pub histories_go_on : HistoriesGoOn drive
   histories_go_on = record {
     kept = λ x trees d c more kept. kept_on x.volume x.trees trees more x.made x.since (moment_of drive d c) x.done x.jobs x.waits x.acks kept;
@@ -87,6 +93,7 @@ module _ {D : Type 0} (drive : Ghosts D) where
     };
   }
 
+  -- where all is kept, the next op is in reach, and each image of a crash is fine
   pub kept_gives : KeptGives drive
   kept_gives = record {
     next = λ x job jobs d held kept. next_reached x.volume x.trees x.made x.since (moment_of drive d held) x.done job jobs x.waits x.acks kept;
@@ -101,6 +108,7 @@ module _ {D : Type 0} (drive : Ghosts D) where
     synced = λ x d held kept same. history_stands x.volume x.trees x.made x.since (moment_of drive d held) x.done x.jobs x.waits x.acks kept same;
   }
 
+  -- what a close that is done leaves on the cartridge
   pub closes_leave : ClosesLeave drive
   closes_leave = record {
     closed = λ x before space rules text index d held kept done.

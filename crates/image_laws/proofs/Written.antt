@@ -141,6 +141,7 @@ module _ (v : Volume) (t : Trees) (plan : Cartridge) (pos : ℕ) (x : Item) (s :
   cut_short : (good old l : List Item) → pos ≡ length good → take (length good) old ≡ good → IsCutShort pos old l → (l ≡ good) ⊎ (l ≡ good ++ Torn ∷ [])
   cut_short good old l at is cut = subst (λ (g : List Item). (l ≡ g) ⊎ (l ≡ g ++ Torn ∷ [])) (front_is good old at is) cut
 
+  -- a cartridge reads after a write that failed as what was made before
   pub broken_reads : (p : Part) → pos ≡ length (part_items p s) → MayWrite p s.base → IsBroken p pos held new → ReadsAs v t plan s new
   broken_reads Ip at may w =
       let same : new.dp ≡ held.dp = w.rest.other_part in

@@ -23,24 +23,31 @@ short_first x y less empty ip dp t end =
 short_of : (bytes cm : List ℕ) → length bytes ≡ 257 → BeginsWith bytes cm → length cm < 512
 short_of bytes cm size (rest, is, less) = subst (λ (l : List ℕ). length l < 512) (sym is) (omega (arith, length-append bytes rest, size, less))
 
+-- a header that begins with 257 bytes has as many or more
 pub long_of : (bytes cm : List ℕ) → length bytes ≡ 257 → BeginsWith bytes cm → 257 ≤ length cm
 long_of bytes cm size (rest, is, less) = subst (λ (l : List ℕ). 257 ≤ length l) (sym is) (omega (arith, length-append bytes rest, size))
 
+-- while the header is cleared, each image stores the first value
 pub clear_each : (x y : Files) → IsShort x.cm → AreEmpty x.ip x.dp → y.ip ≡ x.ip → y.dp ≡ x.dp → IsTouched 0 257 x.cm y.cm → HasFirst y
 clear_each x y h empty ip dp t = short_first x y h empty ip dp t (omega arith)
 
+-- zeros written first begin a header
 pub clear_ends : (x : List ℕ) → IsShort x → IsBegun (written 0 (replicate 257 0) x)
 clear_ends x h = (drop 257 x, refl, omega (arith, h, length-drop 257 x))
 
+-- while the first value is written, each image stores the first value
 pub body_each : (x y : Files) → IsBegun x.cm → AreEmpty x.ip x.dp → y.ip ≡ x.ip → y.dp ≡ x.dp → IsTouched 1 255 x.cm y.cm → HasFirst y
 body_each x y h empty ip dp t = short_first x y (short_of (replicate 257 0) x.cm refl h) empty ip dp t (omega arith)
 
+-- the first value written behind the closed gate stands there
 pub body_ends : (x : List ℕ) → IsBegun x → IsBodied (written 1 first_value x)
 body_ends x (rest, is, less) = (rest, ap (written 1 first_value) is, less)
 
+-- while the gate is opened, each image stores the first value
 pub gate_each : (x y : Files) → IsBodied x.cm → AreEmpty x.ip x.dp → y.ip ≡ x.ip → y.dp ≡ x.dp → IsTouched 0 1 x.cm y.cm → HasFirst y
 gate_each x y h empty ip dp t = short_first x y (short_of (bodied 0) x.cm refl h) empty ip dp t (omega arith)
 
+-- the first gate opened stands before the first value
 pub gate_ends : (x : List ℕ) → IsBodied x → IsGated (written 0 (1 ∷ []) x)
 gate_ends x (rest, is, less) = (rest, ap (written 0 (1 ∷ [])) is, less)
 
@@ -57,12 +64,14 @@ full_first x y (rest, is, less) t size =
           zero_one (get_or y 256 0) zero_there one);
     })
 
+-- while the rest is written, each image stores the first value
 pub rest_each : (x y : Files) → IsGated x.cm → AreEmpty x.ip x.dp → y.ip ≡ x.ip → y.dp ≡ x.dp → IsTouched 257 255 x.cm y.cm → HasFirst y
 rest_each x y h empty ip dp t = ⊎_elim
     (λ (less : length y.cm < 512). inl (record { ip = ip ∙ empty.0; dp = dp ∙ empty.1; cm = less }, refl))
     (λ (full : 512 ≤ length y.cm). inr (full_first x.cm y.cm h t (omega (arith, full, t.no_longer, short_of (bodied 1) x.cm refl h))))
     (cases_lt (length y.cm) 512)
 
+-- zeros up to the end make the whole first header
 pub rest_ends : (x : List ℕ) → IsGated x → IsMade (written 257 (replicate 255 0) x)
 rest_ends x (rest, is, less) =
     ap (written 257 (replicate 255 0)) is

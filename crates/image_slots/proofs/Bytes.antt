@@ -5,10 +5,12 @@ use Rattle.byte_disk.specs.Files.{IsAnyIn, bytes_at, written}
 use Rattle.byte_disk.proofs.Written.{length_written, written_below, written_inside, written_above}
 use Rattle.image_slots.specs.Pieces.{IsTouched}
 
+-- any bytes in a range leave what is outside of it
 pub any_touched : {at n : ℕ} {old new : List ℕ} → IsAnyIn at n old new → IsTouched at n old new
 any_touched any = record { outside = any.outside; no_shorter = any.no_shorter; no_longer = any.no_longer }
 
 module _ (at : ℕ) (bytes old : List ℕ) (within : at ≤ length old) where
+  -- bytes written in a range leave what is outside of it
   pub written_touched : IsTouched at (length bytes) old (written at bytes old)
   written_touched = record {
     outside = λ i lt out. ⊎_elim

@@ -56,6 +56,7 @@ pub old_image : {X : Type 0} {m : ℕ} {leaves_a leaves_b : X → Type 0} {since
     → Crashes NothingNew m leaves_a leaves_b since_a since_b → (image : X) → leaves_b image → leaves_a image
 old_image {leaves_a = leaves_a} first image left = let was = first.now image left in subst leaves_a (sym was.2) was.1
 
+-- two steps of which neither does anything new do nothing new together
 pub join_same : {X : Type 0} (x y z : X) → NothingNew x y → NothingNew y z → NothingNew x z
 join_same x y z e f = f ∙ e
 
@@ -66,15 +67,18 @@ join_within P x y z h k = (k.0 ∙ h.0, k.1 ∙ h.1, k.2)
 pub one_at_most : {a b : ℕ} → IsOneMore a b → AtMost 1 a b
 one_at_most one = record { later = omega (arith, one.in_range, one.one_more); bound = omega (arith, one.one_more) }
 
+-- commands up to two bounds, one behind the other, are up to their sum
 pub then_at_most : {m n a b c : ℕ} → AtMost m a b → AtMost n b c → AtMost (m + n) a c
 then_at_most first second = record {
   later = omega (arith, first.later, second.later);
   bound = omega (arith, first.bound, second.bound);
 }
 
+-- commands up to a bound are up to a greater one
 pub more_at_most : (m n : ℕ) {a b : ℕ} → m ≤ n → AtMost m a b → AtMost n a b
 more_at_most m n le first = record { later = first.later; bound = omega (arith, le, first.bound) }
 
+-- a fault that is counted after a moment is counted after an earlier one
 pub later_cause : {T E : Type 0} {a b c : ℕ} (r : Result T E) → a ≤ b → HasCause b c r → HasCause a c r
 later_cause {a = a} {b = b} {c = c} (Ok x) le h = record { later = omega (arith, le, h.later); failed = tt }
 later_cause {a = a} {b = b} {c = c} (Err e) le h = record { later = omega (arith, le, h.later); failed = rose a b c le h.failed }
@@ -91,15 +95,18 @@ pub told_before : (o p : Option Files) → (o ≡ None → p ≡ None) → (e : 
 told_before None p untold e is = absurd (cc (sym is ∙ untold refl))
 told_before (Some d) p untold e is = (d, refl)
 
+-- a sure file is the same in each image that a crash may leave
 pub sure_told : (file : File) (o : Option Files) (leaves : Files → Type 0) → IsFileSure file o leaves
     → (d image : Files) → o ≡ Some d → leaves image → bytes_of file image ≡ bytes_of file d
 sure_told file None leaves sure d image is left = absurd (cc is)
 sure_told file (Some held) leaves sure d image is left = sure image left ∙ ap (bytes_of file) (same_files (Some held) d held is refl)
 
+-- what holds of the files that are told holds of these files
 pub held_has : (o : Option Files) (P : Files → Type 0) → IfSome o P → (d : Files) → o ≡ Some d → P d
 held_has None P h d is = absurd (cc is)
 held_has (Some e) P h d is = subst P (same_files (Some e) d e is refl) h
 
+-- what holds of all files that may be told holds where they are told
 pub where_told : (o : Option Files) (P : Files → Type 0) → ((d : Files) → o ≡ Some d → P d) → IfSome o P
 where_told None P holds = tt
 where_told (Some d) P holds = holds d refl
@@ -167,6 +174,7 @@ module _ {D T E : Type 0} (disk : Ghosts D) (at : ℕ) (bytes : List ℕ) (a b :
 
 -- a header stays one
 module _ {D : Type 0} (disk : Ghosts D) (at : ℕ) (bytes : List ℕ) (a b : D) where
+  -- a write within the header leaves its 512 bytes
   pub put_size : {T E : Type 0} (r : Result T E) → IfSome (disk.held a) (λ (d : Files). length d.cm ≡ 512) → at + length bytes ≤ 512
       → IsPut disk at bytes r a b → IfSome (disk.held b) (λ (d : Files). length d.cm ≡ 512)
   put_size r size end put = where_told (disk.held b) (λ (d : Files). length d.cm ≡ 512) (λ e is.
@@ -175,6 +183,7 @@ module _ {D : Type 0} (disk : Ghosts D) (at : ℕ) (bytes : List ℕ) (a b : D) 
       subst (λ (f : Files). length f.cm ≡ 512) (same_files (disk.held b) e t.0 is t.1)
       (touched_size t.4 512 (held_has (disk.held a) (λ (d : Files). length d.cm ≡ 512) size was.0 was.1) end))
 
+-- a place within 512 bytes is within the header
 pub within_size : (o : Option Files) (at : ℕ) → at ≤ 512 → IfSome o (λ (d : Files). length d.cm ≡ 512) → IfSome o (λ (d : Files). at ≤ length d.cm)
 within_size None at small size = tt
 within_size (Some d) at small size = omega (arith, small, size)

@@ -44,6 +44,7 @@ from_counts a b gb vb v eb ib counts is = ⊎_elim
     (subst (λ (x : List ℕ). serial_of (value_in b) < serial_of x) (sym is) less)))
     counts.1
 
+-- a value that counts on one side is the header's
 pub has_value : (side : Side) (cm v : List ℕ) → CountsIn side cm v → HasValue cm v
 has_value First cm v c = record {
   size = c.size;
@@ -132,6 +133,7 @@ only false false a b Second (bad, h) = absurd (cc bad)
 closed_gate : (g : ℕ) → (g == 1) ≡ false → g ≢ 1
 closed_gate g e = λ (one : g ≡ 1). cc (sym (eq-eqb g 1 one) ∙ e)
 
+-- a gate that is not 1 fails the test of being open
 pub gate_closed : (g : ℕ) → g ≢ 1 → (g == 1) ≡ false
 gate_closed g other = by (g == 1) refl
   where
@@ -170,6 +172,7 @@ value_chosen cm v h =
     ∙ ap (λ (o : Option Side). option_map (λ (side : Side). value_at side cm) o) (counts_side c.0 cm v c.1)
     ∙ ap (λ (x : List ℕ). Some x) c.1.body
 
+-- a value that is chosen is the header's
 pub chosen_value : (cm v : List ℕ) → chosen cm ≡ Some v → HasValue cm v
 chosen_value cm v e = sized (length cm == 512) refl e
   where
@@ -182,9 +185,11 @@ chosen_value cm v e = sized (length cm == 512) refl e
     sized true size h = sided (side_in cm) (eqb-true (length cm) 512 size) refl h
     sized false size h = absurd (cc h)
 
+-- a header has one value at most
 pub one_value : (cm v w : List ℕ) → HasValue cm v → HasValue cm w → v ≡ w
 one_value cm v w h k = same_Some v w (sym (value_chosen cm v h) ∙ value_chosen cm w k)
 
+-- a disk stores one value at most
 pub one_stored : (d : Files) (v w : List ℕ) → Stores d v → Stores d w → v ≡ w
 one_stored d v w (inl (blank, a)) (inl (again, b)) = a ∙ sym b
 one_stored d v w (inl (blank, a)) (inr h) = absurd (omega (arith, blank.cm, h.size))

@@ -30,6 +30,7 @@ beside_turned Second cm e = sym (eq-eqb (gate_in Second cm) 1 e)
 pub opened : (g : ℕ) → true ≡ (g == 1) → g ≡ 1
 opened g e = eqb-true g 1 (sym e)
 
+-- a gate that fails the test of being open is not 1
 pub closed : (g : ℕ) → false ≡ (g == 1) → g ≢ 1
 closed g e = λ (one : g ≡ 1). let bad : true ≡ false = sym (eq-eqb g 1 one) ∙ sym e in cc bad
 
@@ -67,9 +68,11 @@ module _ (side : Side) (old : List ℕ) where
       (sym (touched_run t (there + 1) 255 (omega (arith, c.size, low (other_of side))) (inr (omega arith)))) less))
       c.lesser)
 
+  -- while the gate beside is closed, each image has the old value or the new one
   pub close_each : (new : List ℕ) (x y : Files) → IsRead side true old x.cm → IsTouched there 1 x.cm y.cm → HasOne old new y
   close_each new x y read t = inl (has_value side y.cm old (close_counts x.cm y.cm read.0 (opened (gate_in (other_of side) x.cm) read.1) t))
 
+  -- a gate set to 0 beside the slot that counts is closed
   pub close_ends : (x : List ℕ) → IsRead side true old x → IsClosedBeside side old (written there (0 ∷ []) x)
   close_ends x read =
       let within : there ≤ length x = omega (arith, read.0.size, low (other_of side)) in (
@@ -84,10 +87,12 @@ module _ (side : Side) (old : List ℕ) where
   shut_gate x y n c shut t = λ (one : gate_in (other_of side) y ≡ 1).
       shut (sym (t.outside there (omega (arith, c.size, low (other_of side))) (inl (omega arith))) ∙ one)
 
+  -- while a value is written behind a closed gate, each image has the old value or the new one
   pub value_each : (new : List ℕ) (n : ℕ) (x y : Files) → n ≡ 255 → IsClosedBeside side old x.cm → IsTouched (there + 1) n x.cm y.cm → HasOne old new y
   value_each new n x y long h t = inl (has_value side y.cm old
       (kept x.cm y.cm h.0 t (omega arith) (omega (arith, long)) (inl (shut_gate x.cm y.cm n h.0 h.1 t))))
 
+  -- a new value behind the closed gate is prepared
   pub value_ends : (new x : List ℕ) → length new ≡ 255 → IsClosedBeside side old x → IsPrepared side old new (written (there + 1) new x)
   value_ends new x long h =
       let within : there + 1 ≤ length x = omega (arith, h.0.size, low (other_of side)) in
@@ -126,9 +131,11 @@ module _ (side : Side) (old : List ℕ) where
         (λ (shut : gate_in (other_of side) y ≢ 1). inl (has_value side y old (kept x y h.0 t (omega arith) (omega arith) (inl shut))))
         (cases_eq (gate_in (other_of side) y) 1)
 
+  -- while the gate of the new value is opened, each image has the old value or the new one
   pub gate_each : (new : List ℕ) (x y : Files) → serial_of old < serial_of new → IsPrepared side old new x.cm → IsTouched there 1 x.cm y.cm → HasOne old new y
   gate_each new x y later h t = one_counts new x.cm y.cm later h t
 
+  -- with its gate open, the new value counts
   pub gate_ends : (new x : List ℕ) → serial_of old < serial_of new → IsPrepared side old new x → IsRead (other_of side) true new (written there (1 ∷ []) x)
   gate_ends new x later h =
       let within : there ≤ length x = omega (arith, h.0.size, low (other_of side)) in

@@ -48,14 +48,17 @@ IsMaking (Err e) (Ok f) = ⊥
 IsMaking (Err e) (Err Header) = ⊥
 IsMaking (Err e) (Err Disk) = Unit {0}
 
+-- a read of 512 bytes is within a header of that size
 pub whole_within : (o : Option Files) (n : ℕ) → n ≡ 512 → IfSome o (λ (d : Files). length d.cm ≡ 512) → IfSome o (λ (d : Files). 0 + n ≤ length (bytes_of files.Cm d))
 whole_within None n e size = tt
 whole_within (Some d) n e size = omega (arith, e, size)
 
+-- a header that is measured as 512 bytes has as many
 pub size_of : (o : Option Files) (n : ℕ) → n ≡ 512 → IfSome o (λ (d : Files). length d.cm ≡ n) → IfSome o (λ (d : Files). length d.cm ≡ 512)
 size_of None n e size = tt
 size_of (Some d) n e size = size ∙ e
 
+-- a header that is measured as less than 512 bytes is short
 pub short_size : (o : Option Files) (n : ℕ) → n < 512 → IfSome o (λ (d : Files). length d.cm ≡ n) → IfSome o (λ (d : Files). IsShort d.cm)
 short_size None n less size = tt
 short_size (Some d) n less size = omega (arith, less, size)
@@ -73,6 +76,7 @@ module _ {D : Type 0} (disk : Ghosts D) where
     cause = record { later = cause.later; failed = cause.failed };
   }
 
+  -- a sync and a measure, one after the other, measure a sure file
   pub measured : {E : Type 0} (file : File) (r : Result ℕ E) (a b c : D) → IsFileSure file (disk.held b) (disk.leaves b) → disk.held b ≡ disk.held a
       → IsOneMore (disk.commands a) (disk.commands b) → disk.faults a ≤ disk.faults b → CrashesIn disk NothingNew a b
       → IfOk r (λ (n : ℕ). (d : Files) → disk.held b ≡ Some d → n ≡ length (bytes_of file d)) → disk.held c ≡ disk.held b
@@ -107,6 +111,7 @@ module _ {D : Type 0} (disk : Ghosts D) where
     cause = record { later = m.cause.later; failed = m.cause.failed };
   }
 
+  -- a failure to measure the second partition's file is one of both
   pub second_fails : {E : Type 0} (n : ℕ) (e : E) (a b c : D) → IsMeasured {E = E} disk files.Ip (Ok n) a b → IsMeasured {E = E} disk files.Dp (Err e) b c
       → AreMeasured {E = E} disk (Err e) a c
   second_fails n e a b c m k = record {
@@ -121,6 +126,7 @@ module _ {D : Type 0} (disk : Ghosts D) where
       rose : (x y z : ℕ) → x ≤ y → Rose y z → Rose x z
       rose x y z le h = omega (arith, le, h)
 
+  -- both partitions' files were measured, and are empty if both lengths are 0
   pub both_measured : {E : Type 0} (n m : ℕ) (a b c : D) → IsMeasured {E = E} disk files.Ip (Ok n) a b → IsMeasured {E = E} disk files.Dp (Ok m) b c
       → AreMeasured {E = E} disk (Ok ((n == 0) && (m == 0))) a c
   both_measured n m a b c first second = record {
@@ -161,6 +167,7 @@ module _ {D : Type 0} (disk : Ghosts D) where
     faults = disk_failed cause;
   }
 
+  -- a header that was read is looked through for its value
   pub looked : (end : Result Found OpenErr) (header : List ℕ) (a b : D) → IfSome (disk.held a) (λ (d : Files). length d.cm ≡ 512)
       → ((d : Files) → disk.held a ≡ Some d → header ≡ bytes_at 0 512 d.cm) → disk.held b ≡ disk.held a → IsOneMore (disk.commands a) (disk.commands b)
       → disk.faults a ≤ disk.faults b → CrashesIn disk NothingNew a b → Finds end header → IfErr end (λ why. why ≡ Header) → IsLook disk 1 end a b
@@ -190,6 +197,7 @@ module _ {D : Type 0} (disk : Ghosts D) where
     faults = then_faults end later look.faults;
   }
 
+  -- a failure to sync the header is one of the disk
   pub settle_fails : {U E : Type 0} (e : E) (a b : D) → disk.held b ≡ disk.held a → IsOneMore (disk.commands a) (disk.commands b)
       → HasCause {T = U} (disk.faults a) (disk.faults b) (Err e) → CrashesIn disk NothingNew a b → IsLook disk 2 (Err Disk) a b
   settle_fails e a b held count cause crash = record {
@@ -200,12 +208,14 @@ module _ {D : Type 0} (disk : Ghosts D) where
     faults = disk_failed cause;
   }
 
+  -- a value found in a synced header is sure
   pub settled_sure : (end : Result Found OpenErr) (b c : D) → IsFileSure files.Cm (disk.held b) (disk.leaves b) → IsLook disk 1 end b c
       → OnOk end (IsHeaderSure disk c)
   settled_sure (Err e) b c sure look = tt
   settled_sure (Ok f) b c sure look = λ d image is left.
       sure_told files.Cm (disk.held b) (disk.leaves b) sure d image (sym look.held ∙ is) (old_image look.crash image left)
 
+  -- the header is as long as was measured
   pub measured_size : {E : Type 0} (n : ℕ) (a b : D) → IsMeasured {E = E} disk files.Cm (Ok n) a b → IfSome (disk.held b) (λ (d : Files). length d.cm ≡ n)
   measured_size n a b m = where_told (disk.held b) (λ (d : Files). length d.cm ≡ n) (λ d is. sym (m.value d (sym m.held ∙ is)))
 

@@ -67,11 +67,13 @@ second_only false true n m x y e = refl
 second_only false false n m x y e = refl
 
 module _ (a b c : List ℕ) (la : length a ≡ 256) (lb : length b ≡ 256) (lc : length c ≡ 256) (ob : ¬ (IsOpen b)) (oc : ¬ (IsOpen c)) where
+  -- what stands in a closed second slot does not count
   pub closed_second : chosen (a ++ b) ≡ chosen (a ++ c)
   closed_second =
       chosen_pair a b la lb ∙ first_only (get_or a 0 0 == 1) (get_or b 0 0 == 1) _ _ (drop 1 a) (drop 1 b) (gate_closed (get_or b 0 0) ob)
       ∙ sym (chosen_pair a c la lc ∙ first_only (get_or a 0 0 == 1) (get_or c 0 0 == 1) _ _ (drop 1 a) (drop 1 c) (gate_closed (get_or c 0 0) oc))
 
+  -- what stands in a closed first slot does not count
   pub closed_first : chosen (b ++ a) ≡ chosen (c ++ a)
   closed_first =
       chosen_pair b a lb la ∙ second_only (get_or b 0 0 == 1) (get_or a 0 0 == 1) _ _ (drop 1 b) (drop 1 a) (gate_closed (get_or b 0 0) ob)
@@ -84,12 +86,14 @@ module _ (a value : List ℕ) (gate : ℕ) (la : length a ≡ 256) (lv : length 
   zero_shut : ¬ (IsOpen (0 ∷ value))
   zero_shut = zero_one 0 refl
 
+  -- a second slot with any gate counts as with gate 0 or with gate 1
   pub gate_second : (chosen (a ++ gate ∷ value) ≡ chosen (a ++ 0 ∷ value)) ⊎ (chosen (a ++ gate ∷ value) ≡ chosen (a ++ 1 ∷ value))
   gate_second = ⊎_elim
       (λ (one : gate ≡ 1). inr (ap (λ (g : ℕ). chosen (a ++ g ∷ value)) one))
       (λ (shut : gate ≢ 1). inl (closed_second a (gate ∷ value) (0 ∷ value) la (sized gate) (sized 0) shut zero_shut))
       (cases_eq gate 1)
 
+  -- a first slot with any gate counts as with gate 0 or with gate 1
   pub gate_first : (chosen ((gate ∷ value) ++ a) ≡ chosen ((0 ∷ value) ++ a)) ⊎ (chosen ((gate ∷ value) ++ a) ≡ chosen ((1 ∷ value) ++ a))
   gate_first = ⊎_elim
       (λ (one : gate ≡ 1). inr (ap (λ (g : ℕ). chosen ((g ∷ value) ++ a)) one))

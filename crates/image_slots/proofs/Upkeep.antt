@@ -51,6 +51,7 @@ knows_over (Open after) side beside value la lb d e same back h = (
       subst (λ (l : List ℕ). HasValue l value ⊎ HasValue l after) (sym was.2) (h.1 was.0 was.1),
 )
 
+-- two views that agree, also in the number since which they are open, are one
 pub opened_at : {D : Type 0} (a : D) (side : Side) (value : List ℕ) (beside : Bool) (known : Known) (m n : ℕ) → m ≡ n
     → ◌≡◌ {A = View D} (record { disk = a; side = side; value = value; beside = beside; known = known; opened = m })
     (record { disk = a; side = side; value = value; beside = beside; known = known; opened = n })
@@ -58,9 +59,11 @@ opened_at {D = D} a side value beside known m n e =
     let with_number : ℕ → View D = λ k. record { disk = a; side = side; value = value; beside = beside; known = known; opened = k } in
     ap with_number e
 
+-- a view of which it is not known whether its value is steady stays so
 pub unknown_at : {D : Type 0} (s v : View D) → s ≡ v → false ≡ is_steady v.known → is_steady s.known ≡ false
 unknown_at {D = D} s v e shut = ap (λ (x : View D). is_steady x.known) e ∙ sym shut
 
+-- a view whose value is steady stays so
 pub steady_at : {D : Type 0} (s v : View D) → s ≡ v → v.known ≡ Steady → s.known ≡ Steady
 steady_at {D = D} s v e steady = ap (λ (x : View D). x.known) e ∙ steady
 
@@ -69,6 +72,7 @@ not_steady Steady e h = cc h
 not_steady (Open after) e h = cc e
 
 module _ {D : Type 0} (disk : Ghosts D) where
+  -- a view over another disk
   abbrev pub over : View D → D → View D
   over s b = record { disk = b; side = s.side; value = s.value; beside = s.beside; known = s.known; opened = s.opened }
 
@@ -143,6 +147,7 @@ module _ {D : Type 0} (disk : Ghosts D) where
       let has : HasValue d.cm s.value = has_value s.side d.cm s.value now.0.0 in
       (has, λ image left. subst (λ (l : List ℕ). HasValue l s.value) (sym (now.2 image left).0) has)
 
+  -- what is kept has a header of 512 bytes
   pub kept_size : (s : View D) → IsKept disk s → IfSome (disk.held s.disk) (λ (d : Files). length d.cm ≡ 512)
   kept_size s kept = where_told (disk.held s.disk) (λ (d : Files). length d.cm ≡ 512)
       (λ d is. (held_has_value s.known s.side s.beside s.value (disk.leaves s.disk) d (kept.present d is)).1.size)
@@ -155,6 +160,7 @@ module _ {D : Type 0} (disk : Ghosts D) where
       (λ d e is now. let p = piece.ready e now in
       subst (λ (k : Known). Knows k (other_of s.side) true new (disk.leaves b) e) (sym steady) (p.0, λ image left. (p.2 image left).0))
 
+  -- after a set that succeeded what is kept stays true
   pub kept_set : {T E : Type 0} (x : T) (s : View D) (b : D) (to : Side) (new : List ℕ) → to ≡ other_of s.side → IsKept disk s → s.known ≡ Steady
       → IsPiece {T = T} {E = E} disk (HasOne s.value new) Any (IsRead (other_of s.side) true new) 6 (Ok x) s.disk b
       → IsKept disk (record { disk = b; side = to; value = new; beside = true; known = s.known; opened = s.opened })
@@ -162,6 +168,7 @@ module _ {D : Type 0} (disk : Ghosts D) where
       subst (λ (t : Side). IsKept disk (record { disk = b; side = t; value = new; beside = true; known = s.known; opened = s.opened })) (sym e)
       (kept_set_at x s b new kept steady piece)
 
+  -- after a set that failed what is kept stays true, with the value open
   pub kept_failed : {T E : Type 0} {After : List ℕ → Type 0} (x : E) (s : View D) (b : D) (new : List ℕ) → IsKept disk s
       → IsPiece {T = T} {E = E} disk (HasOne s.value new) Any After 6 (Err x) s.disk b
       → IsKept disk (record { disk = b; side = s.side; value = s.value; beside = s.beside; known = Open new; opened = s.opened })
@@ -189,6 +196,7 @@ module _ {D : Type 0} (disk : Ghosts D) where
     failed = tt;
   }
 
+  -- a set whose pieces all succeeded sets the next value
   pub set_done : {After : List ℕ → Type 0} {E : Type 0} (s v : View D) (b : D) (to : Side) (rest new : List ℕ) (x : Unit {0}) → s ≡ v → to ≡ other_of s.side → new ≡ next_value s.value rest → s.known ≡ Steady
       → IsPiece {T = Unit {0}} {E = E} disk (HasOne s.value new) Any After 6 (Ok x) s.disk b
       → IsSet disk rest (Ok tt) v (record { disk = b; side = to; value = new; beside = true; known = s.known; opened = s.opened })
@@ -212,6 +220,7 @@ module _ {D : Type 0} (disk : Ghosts D) where
     failed = piece.cause.failed;
   }
 
+  -- a set of which a piece failed leaves the value open
   pub set_failed : {After : List ℕ → Type 0} {E : Type 0} (s v : View D) (b : D) (rest new : List ℕ) (x : E) → s ≡ v → new ≡ next_value s.value rest
       → IsPiece {T = Unit {0}} {E = E} disk (HasOne s.value new) Any After 6 (Err x) s.disk b
       → IsSet disk rest (Err Disk) v (record { disk = b; side = s.side; value = s.value; beside = s.beside; known = Open new; opened = s.opened })
@@ -266,6 +275,7 @@ module _ {D : Type 0} (disk : Ghosts D) where
     header = tt;
   }
 
+  -- a value that was found again is known as steady
   pub recovered : (s v : View D) (b : D) (f : Found) → s ≡ v → IsLook disk 2 (Ok f) s.disk b → is_steady s.known ≡ false
       → IsRecovered disk (Ok tt) v (record { disk = b; side = f.side; value = f.value; beside = f.beside; known = Steady; opened = s.opened })
   recovered s v b f e look unknown =
@@ -284,10 +294,12 @@ module _ {D : Type 0} (disk : Ghosts D) where
     header = never_header s b why kept look;
   }
 
+  -- where the value is not found again nothing is changed
   pub not_recovered : (s v : View D) (b : D) (why : OpenErr) → s ≡ v → IsKept disk s → IsLook disk 2 (Err why) s.disk b → is_steady s.known ≡ false
       → IsRecovered disk (Err why) v (over s b)
   not_recovered s v b why e kept look unknown = subst (λ (w : View D). IsRecovered disk (Err why) w (over s b)) e (not_recovered_at s b why kept look unknown)
 
+  -- a value that is steady needs no recovery
   pub recovered_before : (s : View D) → is_steady s.known ≡ true → IsRecovered disk (Ok tt) s s
   recovered_before s steady = record {
     after = (by s.known steady, refl);
@@ -312,6 +324,7 @@ module _ {D : Type 0} (disk : Ghosts D) where
     crash = crash;
   }
 
+  -- a command of the disk leaves the view as it was, over the disk as it is now
   pub commanded : {T E : Type 0} {step : Files → Files → Type 0} (end : Result T E) (s v : View D) (b : D) → s ≡ v → IsOneMore (disk.commands s.disk) (disk.commands b)
       → HasCause (disk.faults s.disk) (disk.faults b) end → CrashesIn disk step s.disk b → IsCommand disk step end v (over s b)
   commanded {step = step} end s v b e count cause crash = subst (λ (w : View D). IsCommand disk step end w (over s b)) e (commanded_at end s b count cause crash)

@@ -45,6 +45,7 @@ module _ {D T E : Type 0} (disk : Ghosts D) (part : Part) (r : Result T E) (a n 
   count_on (Ok x) torn more = more ∙ ap (λ (b : Bool). (half_of part a.reads).count + flag b) (sym torn)
   count_on (Err why) torn more = tt
 
+  -- a Torn that is put behind a partition that ends with one makes it a record
   pub fills_by : Puts disk part item.Torn r a n → (half_of part a.reads).torn ≡ true → Fills disk part r a n
   fills_by done torn = record {
     hides = record {
@@ -84,6 +85,7 @@ module _ {D T E : Type 0} (disk : Ghosts D) (part : Part) (x : Item) (r : Result
   appended (Ok y) old items same = ap (λ (l : List Item). l ++ x ∷ []) (sym same)
   appended (Err why) old items same = inr (ap (λ (l : List Item). l ++ item.Torn ∷ []) (sym same))
 
+  -- an item that is put behind a partition that ends with no Torn is appended
   pub appends_by : Hides disk 2 a b → (half_of part b.reads).torn ≡ false → Puts disk part x r b n → Appends disk 4 part x r a n
   appends_by first whole second = record {
     stays = record {

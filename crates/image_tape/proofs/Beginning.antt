@@ -85,6 +85,7 @@ module _ {D : Type 0} (disk : Ghosts D) (s : slot.View D) (room : Offsets) (valu
         fits_dp = fit.1;
       }
 
+  -- a tape over a disk that is known, with no moment past, is one
   pub kept_over : slot.KnownAreLeft disk → slot.IsKept disk s → s.known ≡ Steady → IsLimits room.limits → (opened : ℕ) (past : List (ℕ × slot.View D))
       → opened ≡ disk.commands s.disk → past ≡ []
       → ((image : Files) → disk.commands s.disk < 2 ^ 64 - 1 → disk.left_since s.disk (disk.commands s.disk) image → disk.leaves s.disk image)
@@ -120,6 +121,7 @@ read_counts limits d s room bytes h =
       ap length found.at_dp ∙ offsets_size 0 h.1 ∙ (records_only s.dp d.dp h.1 bytes.dp found.in_dp).count,
     )
 
+-- a disk whose records are all found can't be found to lack any
 pub uncounted : {D : Type 0} (disk : Ghosts D) (limits : Limits) (old : D) (s : SlotValue) (room : Offsets) (all : Bool) → ((d : Files) → disk.held old ≡ Some d → AreFiles d)
     → ((d : Files) → disk.held old ≡ Some d → IsRead limits d (Ok s) room)
     → (length room.ip ≡ s.ip.count → length room.dp ≡ s.dp.count → all ≡ true) → all ≡ false → (d : Files) → disk.held old ≡ Some d → ⊥
@@ -127,6 +129,7 @@ uncounted disk limits old s room all bytes read both isnt d is =
     let counts = read_counts limits d s room (bytes d is) (read d is) in
     let bad : true ≡ false = sym (both counts.0 counts.1) ∙ isnt in cc bad
 
+-- a disk that was read and synced is such that a tape can be opened over it
 pub tellable : {D : Type 0} (disk : Ghosts D) (limits : Limits) (a b c : slot.View D) (room : Offsets) (value : SlotValue) → ((d : Files) → disk.held a.disk ≡ Some d → AreFiles d)
     → AreSynced disk b → disk.held b.disk ≡ disk.held a.disk → header_by limits (Some b.value) ≡ Some value → Looks disk ((limits.cap_ip + 2) + (limits.cap_dp + 2)) b c
     → ((d : Files) → disk.held b.disk ≡ Some d → IsRead limits d (Ok value) room) → length room.ip ≡ value.ip.count → length room.dp ≡ value.dp.count
@@ -175,6 +178,7 @@ module _ {D : Type 0} (disk : Ghosts D) (limits : Limits) (old : D) (s : slot.Vi
         );
   }
 
+  -- the tape that begins over a disk has its cartridge
   pub has_opened : (t : View D) → t ≡ begun → IsKept disk t → opened ≡ disk.commands s.disk → room.limits ≡ limits → disk.held s.disk ≡ disk.held old
       → ((d : Files) → disk.held old ≡ Some d → IsRead limits d (Ok value) room) → HasOpened disk limits old t
   has_opened t is kept now same held read = subst (λ (v : View D). HasOpened disk limits old v) (sym is)
@@ -191,6 +195,7 @@ fault_by (Refused rh.Header) before after le h = tt
 fault_by (Refused (rh.Record part n)) before after le h = tt
 fault_by re.Disk before after le h = record { lowest = omega arith; rose = h; highest = omega arith }
 
+-- why nothing was read of a disk is why no tape is opened
 pub is_refused : {D : Type 0} (disk : Ghosts D) (limits : Limits) (old : D) (s new : D) (room : Offsets) (why : ReadErr) (before after : ℕ) (reason : OpenErr)
     → reason ≡ reason_of why before after → new ≡ s → before ≡ disk.faults old → after ≡ disk.faults s → disk.faults old ≤ disk.faults s → disk.held s ≡ disk.held old
     → ((d : Files) → disk.held old ≡ Some d → IsRead limits d (Err why) room) → IsReason (disk.faults old) (disk.faults s) why

@@ -216,6 +216,7 @@ module _ {D T E : Type 0} (disk : Ghosts D) (r : Result T E) (part : Part) (at :
         stays_touched part v.base at (length bytes) d e touches.0 touches.1 (omega (arith, ends.0, place)) (omega (arith, ends.0, ends.1)),
       )
 
+  -- a tape is still one when bytes were written behind its records
   pub kept_behind : IsKept disk (with_slots s v)
   kept_behind = record {
     limits = kept.limits;
@@ -266,6 +267,7 @@ module _ {D T E : Type 0} (disk : Ghosts D) (r : Result T E) (part : Part) (at :
   held_behind : held_of disk (with_slots s v) ≡ held_of disk v
   held_behind = read_on (disk.held v.slots.disk) (disk.held s.disk) refl refl
 
+  -- bytes written behind the records show in no reading and no image
   pub hides_behind : Hides disk 1 w (with_slots s v)
   hides_behind = subst (λ (x : View D). Hides disk 1 x (with_slots s v)) is (record {
     stays = record { limits = refl; head = refl; faults = refl; opened = refl };
@@ -277,6 +279,7 @@ module _ {D T E : Type 0} (disk : Ghosts D) (r : Result T E) (part : Part) (at :
   told_at : (d : Files) → disk.held w.slots.disk ≡ Some d → disk.held v.slots.disk ≡ Some d
   told_at d held = ap (λ (x : View D). disk.held x.slots.disk) is ∙ held
 
+  -- the bytes of a write follow what stood before them in the file
   pub follows_at : (r' : Result T E) → r ≡ r' → (d : Files) → disk.held w.slots.disk ≡ Some d → (e : Files) × (disk.held s.disk ≡ Some e)
       × OnOk r' (FollowsIn at bytes (bytes_of (file_of part) d) (bytes_of (file_of part) e))
   follows_at r' same d held =
@@ -288,6 +291,7 @@ module _ {D T E : Type 0} (disk : Ghosts D) (r : Result T E) (part : Part) (at :
       )
 
 module _ {D : Type 0} (disk : Ghosts D) where
+  -- where no command is done, nothing shows
   pub no_hides : (v : View D) → Hides disk 0 v v
   no_hides v = record {
     stays = record { limits = refl; head = refl; faults = refl; opened = refl };
@@ -296,6 +300,7 @@ module _ {D : Type 0} (disk : Ghosts D) where
     crash = λ c held. no_step (disk.commands v.slots.disk) _ _ (λ image left. refl);
   }
 
+  -- commands that nothing shows, one behind the other, show nothing
   pub then_hides : (m n : ℕ) (a b c : View D) → Hides disk m a b → Hides disk n b c → Hides disk (m + n) a c
   then_hides m n a b c first second = record {
     stays = record {
@@ -310,6 +315,7 @@ module _ {D : Type 0} (disk : Ghosts D) where
         (subst (λ (l : Limits). CrashesOn disk l NothingNew b c) first.stays.limits (second.crash x (first.held ∙ held)));
   }
 
+  -- what shows nothing with so many commands at most does so with more at most
   pub more_hides : (m n : ℕ) (a b : View D) → m ≤ n → Hides disk m a b → Hides disk n a b
   more_hides m n a b le hides = record { stays = hides.stays; held = hides.held; count = more_at_most m n le hides.count; crash = hides.crash }
 
@@ -354,11 +360,13 @@ module _ {D : Type 0} (disk : Ghosts D) where
       (subst (λ (f : Files). FollowsIn (at + n) second (bytes_of (file_of part) mid.0) (bytes_of (file_of part) f)) same2 t2.2))
   record_behind part a b c (Err why) at first second n size within untold_a untold_b one two = tt
 
+-- a head has five bytes
 pub head_size : (h : Head) → length (head_bytes h) ≡ 5
 head_size (heads.Block size) = refl
 head_size heads.Mark = refl
 head_size heads.Torn = refl
 
+-- the bytes of two writes stand behind the records, one after the other
 pub behind_at : {D T E : Type 0} (disk : Ghosts D) (part : Part) (r : Result T E) (c : View D) (at at' : ℕ) (first first' second : List ℕ) → at ≡ at' → first ≡ first'
     → OnOk r ((e : Files) → disk.held c.slots.disk ≡ Some e → StandBehind at (first ++ second) (bytes_of (file_of part) e))
     → OnOk r ((e : Files) → disk.held c.slots.disk ≡ Some e → StandBehind at' (first' ++ second) (bytes_of (file_of part) e))

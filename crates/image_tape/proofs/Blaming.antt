@@ -51,6 +51,7 @@ module _ {D : Type 0} (disk : Ghosts D) where
       let both : None ≡ Some is.0 = sym none ∙ sym (ap (header_by v.room.limits) (value_chosen d.cm v.slots.value (left v.slots slots_kept steady d told).0)) ∙ is.1 in
       cc both)
 
+  -- where the header of a tape says nothing in form, the disk tells no files
   pub found_nothing : slot.KnownAreLeft disk → (v : View D) (limits : Limits) (bytes : List ℕ) (r : Option SlotValue) → IsKept disk v → slot.IsKept disk v.slots
       → v.slots.known ≡ Steady → bytes ≡ v.slots.value → limits ≡ v.room.limits → r ≡ header_by limits (Some bytes) → IfNone r (disk.held v.slots.disk ≡ None)
   found_nothing left v limits bytes (Some s) kept slots_kept steady is same e = tt

@@ -96,6 +96,7 @@ module _ {D : Type 0} (disk : Ghosts D) where
       → CrashesOn disk limits step a b → CrashesOn disk limits step a c
   at_fail {step = step} limits past a b c ended crash = subst (λ (v : View D). CrashesOn disk limits step a v) (sym ended.after) crash
 
+  -- the end of a command leaves a known header known
   pub steady_end : (head : Option Place) (past : List (ℕ × slot.View D)) (b c : View D) → IsEnded disk head past b c → IsSteady b → IsSteady c
   steady_end head past b c ended steady = subst (λ (v : View D). IsSteady v) (sym ended.after) (record { doubt = steady.doubt; vcr = steady.vcr })
 
@@ -108,6 +109,7 @@ module _ {D : Type 0} (disk : Ghosts D) where
     crash = at_end a.room.limits head past a b c ended looks.crash;
   }
 
+  -- a command that only read and failed has only looked
   pub looked_badly : {T E : Type 0} (why : E) (m : ℕ) (a b c : View D) → m ≤ 16 → Looks disk m a b → Rose (disk.commands a.slots.disk) (disk.commands b.slots.disk)
       → (past : List (ℕ × slot.View D)) → Remembers disk past a → IsFailed disk past b c → IsLooked {T = T} {E = E} disk (Err why) a c
   looked_badly why m a b c le looks rose past same_past ended = record {
@@ -126,6 +128,7 @@ module _ {D : Type 0} (disk : Ghosts D) where
   surely_well u head a b c e looks rose more past same_past ended =
       looked_well u 9 head a c e (omega arith) (then_looks disk 3 6 a b c looks more) (rose_on a b c rose more.count.later) past same_past ended
 
+  -- a command that only read, also the header anew, and failed has only looked
   pub surely_badly : {T E : Type 0} (why : E) (a b c e : View D) → Looks disk 3 a b → Rose (disk.commands a.slots.disk) (disk.commands b.slots.disk)
       → Looks disk 6 b c → (past : List (ℕ × slot.View D)) → Remembers disk past a → IsFailed disk past c e → IsLooked {T = T} {E = E} disk (Err why) a e
   surely_badly why a b c e looks rose more past same_past ended =
@@ -141,6 +144,7 @@ module _ {D : Type 0} (disk : Ghosts D) where
   -- an item was written
   module _ {T E : Type 0} (at : Place) (x : Item) (a b c e : View D) (looks : Looks disk 3 a b) (rose : Rose (disk.commands a.slots.disk) (disk.commands b.slots.disk))
       (past : List (ℕ × slot.View D)) (same_past : Remembers disk past a) where
+    -- a write that succeeded, at the end of its command
     pub wrote_well : (u : T) → Writes {T = T} {E = E} disk 10 at x (Ok u) b c → IsEnded disk (Some (next at)) past c e → Wrote {T = T} {E = E} disk at x (Ok u) a e
     wrote_well u done ended =
         let all = written_after disk at x (Ok u) 3 10 a b c looks done in
@@ -153,6 +157,7 @@ module _ {D : Type 0} (disk : Ghosts D) where
           crash = λ y held. at_end a.room.limits (Some (next at)) past a c e ended (all.crash y held);
         }
 
+    -- a write that failed, at the end of its command
     pub wrote_badly : (why : E) → Writes {T = T} {E = E} disk 10 at x (Err why) b c → IsFailed disk past c e → Wrote {T = T} {E = E} disk at x (Err why) a e
     wrote_badly why done ended =
         let all = written_after disk at x (Err why) 3 10 a b c looks done in
@@ -165,6 +170,7 @@ module _ {D : Type 0} (disk : Ghosts D) where
           crash = λ y held. at_fail a.room.limits past a c e ended (all.crash y held);
         }
 
+  -- a write that failed before it wrote anything
   pub wrote_not : {T E : Type 0} (at : Place) (x : Item) (a b e : View D) → Looks disk 3 a b → Rose (disk.commands a.slots.disk) (disk.commands b.slots.disk)
       → (past : List (ℕ × slot.View D)) → Remembers disk past a → (why : E) → IsFailed disk past b e → Wrote {T = T} {E = E} disk at x (Err why) a e
   wrote_not at x a b e looks rose past same_past why ended = record {
@@ -196,6 +202,7 @@ module _ {D : Type 0} (disk : Ghosts D) where
       opened = done.stays.opened ∙ looks.stays.opened;
     }
 
+    -- a flush that succeeded, at the end of its command
     pub flushed_well : (u : T) (head : Option Place) → head ≡ a.head → IsStored {T = T} {E = E} disk 8 (Ok u) b c → IsEnded disk head past c e → Flushed {T = T} {E = E} disk (Ok u) a e
     flushed_well u head same done ended = record {
       ends = ends_well u 11 head a c e (omega arith) (stored_stays (Ok u) done) (then_at_most looks.count done.count) (rose_on a b c rose done.count.later) past same_past ended;
@@ -206,6 +213,7 @@ module _ {D : Type 0} (disk : Ghosts D) where
       crash = λ x held. at_end a.room.limits head past a c e ended (stored_crash (Ok u) done x held);
     }
 
+    -- a flush that failed, at the end of its command
     pub flushed_badly : (why : E) → IsStored {T = T} {E = E} disk 8 (Err why) b c → IsFailed disk past c e → Flushed {T = T} {E = E} disk (Err why) a e
     flushed_badly why done ended = record {
       ends = ends_badly why 11 a c e (omega arith) (stored_stays (Err why) done) (then_at_most looks.count done.count) (rose_on a b c rose done.count.later) past same_past ended;
@@ -215,6 +223,7 @@ module _ {D : Type 0} (disk : Ghosts D) where
       crash = λ x held. at_fail a.room.limits past a c e ended (stored_crash (Err why) done x held);
     }
 
+  -- a flush that failed before it began
   pub flushed_not : {T E : Type 0} (a b e : View D) → Looks disk 3 a b → Rose (disk.commands a.slots.disk) (disk.commands b.slots.disk) → (past : List (ℕ × slot.View D)) → Remembers disk past a → (why : E) → IsFailed disk past b e
       → Flushed {T = T} {E = E} disk (Err why) a e
   flushed_not a b e looks rose past same_past why ended = record {
@@ -241,6 +250,7 @@ module _ {D : Type 0} (disk : Ghosts D) where
       opened = done.stays.opened ∙ looks.stays.opened;
     }
 
+    -- an attribute that was set, at the end of its command
     pub noted_well : (u : T) (head : Option Place) → head ≡ a.head → IsNoteSet {T = T} {E = E} disk part note (Ok u) b c → IsEnded disk head past c e
         → Noted {T = T} {E = E} disk part note (Ok u) a e
     noted_well u head same done ended = record {
@@ -252,6 +262,7 @@ module _ {D : Type 0} (disk : Ghosts D) where
       crash = λ x held. at_end a.room.limits head past a c e ended (noted_crash (Ok u) done x held);
     }
 
+    -- an attribute that was not set for sure, at the end of its command
     pub noted_badly : (why : E) → IsNoteSet {T = T} {E = E} disk part note (Err why) b c → IsFailed disk past c e → Noted {T = T} {E = E} disk part note (Err why) a e
     noted_badly why done ended = record {
       ends = ends_badly why 9 a c e (omega arith) (noted_stays (Err why) done) (then_at_most looks.count done.count) (rose_on a b c rose done.count.later) past same_past ended;
@@ -262,6 +273,7 @@ module _ {D : Type 0} (disk : Ghosts D) where
       crash = λ x held. at_fail a.room.limits past a c e ended (noted_crash (Err why) done x held);
     }
 
+  -- an attribute whose setting failed before it began
   pub noted_not : {T E : Type 0} (part : Part) (note : Note) (a b e : View D) → Looks disk 3 a b → Rose (disk.commands a.slots.disk) (disk.commands b.slots.disk)
       → (past : List (ℕ × slot.View D)) → Remembers disk past a → (why : E) → IsFailed disk past b e → Noted {T = T} {E = E} disk part note (Err why) a e
   noted_not part note a b e looks rose past same_past why ended = record {
@@ -286,6 +298,7 @@ module _ {D : Type 0} (disk : Ghosts D) where
     at_capacity = λ le. reading.at_capacity (subst (λ (l : Limits). capacity at.part l ≤ at.pos) (sym looks.stays.limits) le);
   }
 
+  -- a read that failed, at the end of its command
   pub read_badly : (at : Place) (why : DriveErr) (buf : List ℕ) (m : ℕ) (a c e : View D) → m ≤ 16 → Looks disk m a c → Rose (disk.commands a.slots.disk) (disk.commands c.slots.disk)
       → (past : List (ℕ × slot.View D)) → Remembers disk past a → IsFailed disk past c e → HasRead {E = DriveErr} disk at (Err why) buf a e
   read_badly at why buf m a c e le looks rose past same_past ended = record {
@@ -296,14 +309,17 @@ module _ {D : Type 0} (disk : Ghosts D) where
     at_capacity = tt;
   }
 
+  -- a read that failed behind other reads, at the end of its command
   pub read_late : (at : Place) (why : DriveErr) (buf : List ℕ) (a b c e : View D) → Looks disk 3 a b → Rose (disk.commands a.slots.disk) (disk.commands b.slots.disk) → Looks disk 2 b c
       → (past : List (ℕ × slot.View D)) → Remembers disk past a → IsFailed disk past c e → HasRead {E = DriveErr} disk at (Err why) buf a e
   read_late at why buf a b c e looks rose more past same_past ended =
       read_badly at why buf 5 a c e (omega arith) (then_looks disk 3 2 a b c looks more) (rose_on a b c rose more.count.later) past same_past ended
 
+  -- the end of a command leaves the head at this place by another name
   pub ended_at : (place other : Place) (past : List (ℕ × slot.View D)) (b c : View D) → place ≡ other → IsEnded disk (Some place) past b c → IsEnded disk (Some other) past b c
   ended_at place other past b c same ended = subst (λ (p : Place). IsEnded disk (Some p) past b c) same ended
 
+  -- the head is the same by another name of the view
   pub head_in : (v w : View D) → v ≡ w → v.head ≡ w.head
   head_in v w is = ap (λ (x : View D). x.head) is
 
@@ -311,16 +327,19 @@ module _ {D : Type 0} (disk : Ghosts D) where
   one_place : (v w : View D) (place at : Place) → v ≡ w → v.head ≡ Some place → w.head ≡ Some at → place ≡ at
   one_place v w place at is there head = same_Some place at (sym there ∙ head_in v w is ∙ head)
 
+  -- a write at the head's place is one at that place
   pub wrote_there : {T E : Type 0} (x : Item) (r : Result T E) (v w e : View D) (place : Place) → v ≡ w → v.head ≡ Some place → Wrote disk place x r w e
       → (at : Place) → w.head ≡ Some at → Wrote disk at x r w e
   wrote_there x r v w e place is there done at head = subst (λ (p : Place). Wrote disk p x r w e) (one_place v w place at is there head) done
 
+  -- a read at the head's place is one at that place
   pub read_there : {E : Type 0} (r : Result Got E) (buf : List ℕ) (v w e : View D) (place : Place) → v ≡ w → v.head ≡ Some place → HasRead disk place r buf w e
       → (at : Place) → w.head ≡ Some at → HasRead disk at r buf w e
   read_there r buf v w e place is there done at head = subst (λ (p : Place). HasRead disk p r buf w e) (one_place v w place at is there head) done
 
 -- of a read at whatever place the head has
 module _ {D : Type 0} (disk : Ghosts D) (r : Result Got DriveErr) (buf : List ℕ) (a b : View D) (ran : (at : Place) → a.head ≡ Some at → HasRead disk at r buf a b) where
+  -- a read answers the item at the head
   pub items_read : IfOk r (λ found. (at : Place) (c : Cartridge) → a.head ≡ Some at → held_of disk a ≡ Some c → IsRead (item_at at c) found buf)
   items_read = by r ran
     where
@@ -329,6 +348,7 @@ module _ {D : Type 0} (disk : Ghosts D) (r : Result Got DriveErr) (buf : List �
       by (Ok found) ran = λ at c head held. (ran at head).item c held
       by (Err why) ran = tt
 
+  -- a read at or past the capacity answers the end
   pub ends_read : IfOk r (λ found. (at : Place) → a.head ≡ Some at → capacity at.part a.room.limits ≤ at.pos → found ≡ got.End)
   ends_read = by r ran
     where
@@ -337,6 +357,7 @@ module _ {D : Type 0} (disk : Ghosts D) (r : Result Got DriveErr) (buf : List �
       by (Ok found) ran = λ at head le. (ran at head).at_capacity le
       by (Err why) ran = tt
 
+  -- a read leaves the head past a block or mark, and else where it stood
   pub heads_read : IfOk r (λ found. (at : Place) → a.head ≡ Some at → b.head ≡ Some (after_read found at))
   heads_read = by r ran
     where

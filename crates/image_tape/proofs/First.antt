@@ -91,6 +91,7 @@ module _ {D : Type 0} (disk : Ghosts D) where
       fault = fault_as why (disk.faults old) (disk.faults new) (disk.faults last) found.faults.later h.fault;
     }
 
+  -- a tape that opens once the header is made opens the disk as it was
   pub opened_first : {E : Type 0} (limits : Limits) (old new : D) (f : Found) → IsOpening disk 14 (Ok f) old new → (r : Result (View D) E)
       → IfOk r (λ t. HasOpened disk limits new t) → IfOk r (λ t. HasOpened disk limits old t)
   opened_first limits old new f found (Ok v) h = opened_one old new f found limits v h
@@ -119,12 +120,14 @@ module _ {D : Type 0} (disk : Ghosts D) where
     fault = record { lowest = omega arith; rose = found.faults.failed; highest = omega arith };
   }
 
+  -- why no header was found is why no tape is opened
   pub refused_header : (limits : Limits) (why : slots.OpenErr) (old new : D) (before after : ℕ) (reason : OpenErr) → IsOpening disk 14 (Err why) old new
       → before ≡ disk.faults old → after ≡ disk.faults new → reason ≡ header_reason why before after → IsRefused disk limits reason old new
   refused_header limits why old new before after reason found eb ea is =
       subst (λ (r : OpenErr). IsRefused disk limits r old new)
       (sym (is ∙ ap (λ (n : ℕ). header_reason why n after) eb ∙ ap (λ (n : ℕ). header_reason why (disk.faults old) n) ea)) (header_refused limits why old new found)
 
+  -- why no tape opens once the header is made is why none opens the disk
   pub refused_first : {V F : Type 0} (limits : Limits) (why_of : F → OpenErr) (disk_of : F → D) (old new : D) (f : Found) → IsOpening disk 14 (Ok f) old new → (r : Result V F)
       → IfErr r (λ x. IsRefused disk limits (why_of x) new (disk_of x)) → IfErr r (λ x. IsRefused disk limits (why_of x) old (disk_of x))
   refused_first limits why_of disk_of old new f found (Ok v) h = tt

@@ -67,6 +67,7 @@ module _ {D : Type 0} (disk : Ghosts D) where
   fits_by v kept None is = tt
   fits_by v kept (Some d) is = fits_in v.doubt v (disk.leaves v.slots.disk) d kept.holds kept.suits (kept.tells d is)
 
+  -- the cartridge that reads is within the capacities
   pub held_fits : (v w : View D) (limits : Limits) → v ≡ w → IsKept disk v → limits ≡ v.room.limits → IfSome (held_of disk w) (λ c. FitsLimits limits c)
   held_fits v w limits is kept same = subst (λ (x : View D). IfSome (held_of disk x) (λ c. FitsLimits limits c)) is
       (subst (λ (l : Limits). IfSome (held_of disk v) (λ c. FitsLimits l c)) (sym same) (fits_by v kept (disk.held v.slots.disk) refl))

@@ -17,6 +17,7 @@ front_bytes n items =
     ap (λ (l : List Item). flat_map record_bytes l) (sym (take-append-drop n items))
     ∙ flat_map-append record_bytes (take n items) (drop n items)
 
+-- the first records of a file are no longer than all of them
 pub front_size : (n : ℕ) (items : List Item) → length (flat_map record_bytes (take n items)) ≤ length (flat_map record_bytes items)
 front_size n items =
     omega (arith, ap length (front_bytes n items), length-append (flat_map record_bytes (take n items)) (flat_map record_bytes (drop n items)))
@@ -75,6 +76,7 @@ fewer_offsets at zero items = refl
 fewer_offsets at (suc n) [] = refl
 fewer_offsets at (suc n) (x ∷ xs) = ap (λ (l : List ℕ). at ∷ l) (fewer_offsets (at + width x) n xs)
 
+-- where the records begin with one record more
 pub offsets_more : (at : ℕ) (items : List Item) (x : Item)
     → offsets_from at (items ++ x ∷ []) ≡ offsets_from at items ++ (at + length (flat_map record_bytes items)) ∷ []
 offsets_more at [] x = ap (λ (n : ℕ). n ∷ []) (let e : at ≡ at + length (flat_map record_bytes []) = omega arith in e)
@@ -84,6 +86,7 @@ offsets_more at (y ∷ ys) x =
     (let e : at + width y + length (flat_map record_bytes ys) ≡ at + length (record_bytes y ++ flat_map record_bytes ys) =
     omega (arith, length-append (record_bytes y) (flat_map record_bytes ys)) in e)
 
+-- there is an offset for each record
 pub offsets_size : (at : ℕ) (items : List Item) → length (offsets_from at items) ≡ length items
 offsets_size at [] = refl
 offsets_size at (x ∷ xs) = ap suc (offsets_size (at + width x) xs)

@@ -103,6 +103,7 @@ module _ {D : Type 0} (disk : Ghosts D) (v : View D) (kept : IsKept disk v) (set
         };
   }
 
+-- where the position isn't counted, the reference goes up before the header has it
 pub lags : {D T E : Type 0} (disk : Ghosts D) (v w : View D) (kept : IsKept disk v) (reads : SlotValue) (at : Place) (u : T) → v ≡ w → w.doubt ≡ Settled
     → (vcr : ℕ) → vcr ≡ v.reads.vcr + 1 → vcr < 2 ^ 64 → reads ≡ with_vcr vcr v.reads → IsUncounted at w
     → IsKept disk (shaped disk reads v.room v) × Rises {T = T} {E = E} disk at (Ok u) w (shaped disk reads v.room v)

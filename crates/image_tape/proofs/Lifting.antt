@@ -10,6 +10,7 @@ use Rattle.image_format.specs.Images.{Opens}
 use Rattle.image_format.specs.declared.refusal.Refusal.{Refusal}
 use Rattle.image_tape.specs.Tape.{AheadOn, AlwaysOpens, CrashesAt, IsTold, LeavesOn, with_reference}
 
+-- files that open as two cartridges open as one
 pub same_cartridge : (r : Result Cartridge Refusal) (c e : Cartridge) → r ≡ Ok c → r ≡ Ok e → e ≡ c
 same_cartridge r c e is also = let same : Ok c ≡ Ok e = sym is ∙ also in cc same
 

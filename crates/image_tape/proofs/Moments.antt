@@ -26,6 +26,7 @@ module _ {D : Type 0} (disk : Ghosts D) where
   remembered v past n same later rose = subst (λ (l : List (ℕ × slot.View D)). AreEarlier disk l n) (sym same.are)
       (earlier_one v.past (v.reads.vcr, v.slots) n (earlier_on v.past (disk.commands v.slots.disk) n later same.early) rose)
 
+  -- a tape remembers this moment and all that are past
   pub remembers : (v w : View D) (past : List (ℕ × slot.View D)) → v ≡ w → IsKept disk v → past ≡ with_moment w → Remembers disk past w
   remembers v w past is kept same =
       let now = subst (λ (x : View D). IsKept disk x) is kept in

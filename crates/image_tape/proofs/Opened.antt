@@ -46,12 +46,15 @@ module _ {limits : Limits} {said reads : SlotValue} {room : Offsets} {leaves : F
   abbrev pub counted : Stands limits said reads room leaves d → Cartridge
   counted st = cartridge_of said (take said.ip.count st.ip) (take said.dp.count st.dp)
 
+  -- the cartridge of all items that read
   abbrev pub whole : Stands limits said reads room leaves d → Cartridge
   whole st = cartridge_of reads st.ip st.dp
 
+  -- with what is said of all that reads, the files are the whole cartridge
   pub is_whole : (st : Stands limits said reads room leaves d) → image_by d (Some reads) ≡ Ok (whole st)
   is_whole st = joined_by reads d st.ip st.dp st.in_ip.records st.in_dp.records
 
+  -- with what the header says, the files are the cartridge of what counts
   pub is_counted : (st : Stands limits said reads room leaves d) → image_by d (Some said) ≡ Ok (counted st)
   is_counted st = joined_by said d (take said.ip.count st.ip) (take said.dp.count st.dp)
       (lie_counted said.ip reads.ip room.ip d.ip st.ip st.in_ip) (lie_counted said.dp reads.dp room.dp d.dp st.dp st.in_dp)

@@ -120,11 +120,13 @@ block_read from size place (item.Block block) file bytes has is at read =
 block_read from size place item.Mark file bytes has is at read = absurd (cc is)
 block_read from size place item.Torn file bytes has is at read = absurd (cc is)
 
+-- at a head of a mark a mark is read
 pub mark_read : (x : Item) → head_for x ≡ head.Mark → IsRead (Some x) got.Mark []
 mark_read (item.Block block) is = absurd (cc is)
 mark_read item.Mark is = (refl, refl)
 mark_read item.Torn is = absurd (cc is)
 
+-- at a head of a Torn a Torn is read
 pub torn_read : (x : Item) → head_for x ≡ head.Torn → IsRead (Some x) got.Torn []
 torn_read (item.Block block) is = absurd (cc is)
 torn_read item.Mark is = absurd (cc is)
@@ -168,6 +170,7 @@ pub record InPart (part : Part) (reads : SlotValue) (room : Offsets) (d : Files)
   pub offsets : offsets_of part room ≡ offsets_from 0 items
   pub is : items_of part c ≡ items ++ tail_of (half_of part reads).torn
 
+-- what lies in a partition of the whole cartridge is what its value says
 pub in_part : (part : Part) {limits : Limits} {said reads : SlotValue} {room : Offsets} {leaves : Files → Type 0} {d : Files} (st : Stands limits said reads room leaves d)
     → InPart part reads room d (whole st)
 in_part Ip st = record { items = st.ip; records = st.in_ip.records; offsets = st.in_ip.offsets_are; is = refl }

@@ -60,10 +60,12 @@ cut_end said reads pos end offsets file items less lt is lie =
 shorter_front : (n m : ℕ) (a b : List ℕ) → n ≤ m → take m a ≡ take m b → take n a ≡ take n b
 shorter_front n m a b le same = sym (take-take n m a le) ∙ ap (λ (l : List ℕ). take n l) same ∙ take-take n m b le
 
+-- items cut at a position are cut so with a Torn behind them too
 pub cut_items : (pos : ℕ) (items : List Item) (torn : Bool) → pos ≤ length items → take pos items ++ tail_of false ≡ take pos (items ++ tail_of torn)
 cut_items pos items torn le = append-nil (take pos items) ∙ sym (take-append-le pos items (tail_of torn) le)
 
 module _ {D : Type 0} (disk : Ghosts D) (v : View D) (kept : IsKept disk v) (settled : v.doubt ≡ Settled) (vcr : ℕ) (next : vcr ≡ v.reads.vcr + 1) (range : vcr < 2 ^ 64) where
+  -- what counts of the files that the disk tells, and what reads of them
   abbrev pub st0 : (d : Files) → disk.held v.slots.disk ≡ Some d → Stands v.room.limits v.base v.reads v.room (disk.leaves v.slots.disk) d
   st0 d is = (tells_of disk v kept settled d is).0
 
@@ -287,6 +289,7 @@ module _ {D T E : Type 0} (disk : Ghosts D) (r : Result T E) (at : Place) (base 
   settled_v : v.doubt ≡ Settled
   settled_v = ap (λ (x : View D). x.doubt) is ∙ settled_w
 
+  -- a header with the greater reference, set where nothing is cut, lets the reference go up
   pub rises_uncut : base ≡ with_vcr vcr v.base → reads ≡ with_vcr vcr v.reads → IsUncounted at v → IsCommit disk base reads r w n → OnOk r (IsTaken base reads w n)
       → Rises disk at r w n
   rises_uncut eb er uncounted done taken = subst (λ (x : View D). Rises disk at r x n) is
@@ -301,6 +304,7 @@ module _ {D T E : Type 0} (disk : Ghosts D) (r : Result T E) (at : Place) (base 
       half_with Ip k s = refl
       half_with Dp k s = refl
 
+  -- a header with the greater reference and a cut, once set, lets the reference go up
   pub rises_cut : (end : ℕ) → IsCounted at end v → base ≡ cut_value at.part at.pos end (with_vcr vcr v.base) → reads ≡ cut_value at.part at.pos end (with_vcr vcr v.reads)
       → IsCommit disk base reads r w n → OnOk r (IsTaken base reads w n) → Rises disk at r w n
   rises_cut end counted_at eb er done taken = subst (λ (x : View D). Rises disk at r x n) is

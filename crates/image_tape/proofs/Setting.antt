@@ -363,6 +363,7 @@ number_by limits raw (Some ip) None s e = absurd (cc e)
 number_by limits raw (Some ip) (Some dp) s e = ap (λ (x : SlotValue). x.serial)
     (if_taken (fits limits.cap_ip ip && fits limits.cap_dp dp) (record { serial = number_at raw 0; vcr = number_at raw 8; ip = ip; dp = dp }) s e)
 
+-- the serial number in a slot is the one of the value that it says
 pub number_of : (limits : Limits) (raw : List ℕ) (s : SlotValue) → header_by limits (Some raw) ≡ Some s → serial_of raw ≡ s.serial
 number_of limits raw s is = number_by limits raw (half_of (slice_range raw 16 104)) (half_of (slice_range raw 104 192)) s is
 
@@ -374,13 +375,16 @@ module _ {D : Type 0} (disk : Ghosts D) (v w : View D) (s : slot.View D) (value 
     (is : v ≡ w) (kept : IsKept disk v) (settled_w : w.doubt ≡ Settled) (stands_w : MayStand disk value reads w) (holds_w : Holds (cut_to reads w.room) reads)
     (next : serial ≡ v.base.serial + 1) (numbered : value' ≡ with_serial serial value) (sized : IsSized value') (encoded : bytes ≡ value_bytes value')
     (behind : rest ≡ drop 8 bytes) (done : slot.IsSet disk rest r v.slots s) where
+  -- before a value is set it is known what the header says
   pub settled : v.doubt ≡ Settled
   settled = ap (λ (x : View D). x.doubt) is ∙ settled_w
 
+  -- the value that is to be set would be right as the header's
   pub stands : MayStand disk value' reads v
   stands d told = subst (λ (x : SlotValue). Stands v.room.limits x reads (cut_to reads v.room) (disk.leaves v.slots.disk) d) (sym numbered)
       (stands_numbered serial (at_inside (λ (x : View D). MayStand disk value reads x) v w is stands_w d told))
 
+  -- there is an offset for each record that would read
   pub holds : Holds (cut_to reads v.room) reads
   holds = at_inside (λ (x : View D). Holds (cut_to reads x.room) reads) v w is holds_w
 
@@ -398,6 +402,7 @@ module _ {D : Type 0} (disk : Ghosts D) (v w : View D) (s : slot.View D) (value 
   pub next_serial : value'.serial ≡ v.base.serial + 1
   next_serial = ap (λ (x : SlotValue). x.serial) numbered ∙ next
 
+  -- a tape whose value was set is one
   pub commit_kept : slot.KnownAreLeft disk → slot.IsKept disk s → (room : Offsets) (doubt : Doubt) → room ≡ cut_to reads v.room → doubt ≡ v.doubt
       → r ≡ Ok tt → IsKept disk (set_view disk v s value' reads rest r kept settled sized stands is_next done room doubt)
   commit_kept left_known slots_kept room doubt cut same ok =
@@ -410,6 +415,7 @@ module _ {D : Type 0} (disk : Ghosts D) (v w : View D) (s : slot.View D) (value 
   same_number : value'.vcr ≡ value.vcr
   same_number = ap (λ (x : SlotValue). x.vcr) numbered
 
+  -- a tape whose value was to be set, and perhaps is, is one
   pub commit_open : value.vcr ≡ reads.vcr → IsKept disk (open_view disk v s value' reads rest r kept settled sized stands is_next done)
   commit_open same_vcr = kept_open disk v s value' reads rest r kept settled sized stands is_next done holds next_serial (same_number ∙ same_vcr)
 
@@ -431,6 +437,7 @@ module _ {D : Type 0} (disk : Ghosts D) (v w : View D) (s : slot.View D) (value 
     crash = λ d from to told is_from is_to. done_as.crash d from to told is_from (numbered_by d to told is_to);
   })
 
+  -- a value that was set is a commit that succeeded
   pub commit_is_set : value.vcr ≡ reads.vcr → slot.KnownAreLeft disk → slot.IsKept disk s → (room : Offsets) (doubt : Doubt) → room ≡ cut_to reads v.room
       → doubt ≡ v.doubt → r ≡ Ok tt
       → IsCommit {T = Unit {0}} {E = DriveErr} disk value reads (Ok tt) w (set_view disk v s value' reads rest r kept settled sized stands is_next done room doubt)
@@ -438,6 +445,7 @@ module _ {D : Type 0} (disk : Ghosts D) (v w : View D) (s : slot.View D) (value 
       renamed (is_set disk v s value' reads rest r kept settled sized stands is_next done room doubt (same ∙ settled)
       (ap (λ (x : Offsets). x.limits) cut) (same_number ∙ same_vcr) (commit_kept left_known slots_kept room doubt cut same ok))
 
+  -- a value that perhaps was set is a commit that failed
   pub commit_is_open : (why : DriveErr) → w.reads.vcr ≤ value.vcr
       → IsCommit {T = Unit {0}} {E = DriveErr} disk value reads (Err why) w (open_view disk v s value' reads rest r kept settled sized stands is_next done)
   commit_is_open why later = renamed (is_open disk v s value' reads rest r kept settled sized stands is_next done why
@@ -450,6 +458,7 @@ module _ {D : Type 0} (disk : Ghosts D) (v w : View D) (s : slot.View D) (value 
       renamed (subst (λ (x : slot.View D). IsCommit {T = Unit {0}} {E = DriveErr} disk value' reads (Err why) v (with_slots x v)) (sym same)
       (not_set disk v value' reads why kept settled stands))
 
+  -- a value that was set is the header's, with the next serial number
   pub commit_taken : (room : Offsets) (doubt : Doubt) → room ≡ cut_to reads v.room → doubt ≡ v.doubt
       → IsTaken value reads w (set_view disk v s value' reads rest r kept settled sized stands is_next done room doubt)
   commit_taken room doubt cut same = subst (λ (x : View D). IsTaken value reads x (set_view disk v s value' reads rest r kept settled sized stands is_next done room doubt)) is (record {
@@ -459,6 +468,7 @@ module _ {D : Type 0} (disk : Ghosts D) (v w : View D) (s : slot.View D) (value 
     doubt = same ∙ settled;
   })
 
+-- a value that was refused before it was set leaves the tape as it was
 pub commit_refused : {D : Type 0} (disk : Ghosts D) (v w : View D) (value reads : SlotValue) (why : DriveErr) → v ≡ w → IsKept disk v → w.doubt ≡ Settled
     → MayStand disk value reads w → IsCommit {T = Unit {0}} {E = DriveErr} disk value reads (Err why) w w
 commit_refused {D = D} disk v w value reads why is kept settled stands =

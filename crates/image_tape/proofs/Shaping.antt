@@ -107,6 +107,7 @@ pub records_count : (part : Part) {limits : Limits} {said reads : SlotValue} {ro
 records_count Ip st = st.in_ip.records.count
 records_count Dp st = st.in_dp.records.count
 
+-- a partition with few records ends before its greatest length
 pub end_small : (part : Part) {limits : Limits} {said reads : SlotValue} {room : Offsets} {leaves : Files → Type 0} {d : Files} (st : Stands limits said reads room leaves d)
     → (half_of part reads).count ≤ most_positions → (half_of part reads).end ≤ most_positions * 1048581
 end_small Ip {reads = reads} {d = d} st most = end_size reads.ip d.ip st.ip st.in_ip.records most
@@ -126,6 +127,7 @@ half_number Ip h s = refl
 half_number Dp h s = refl
 
 module _ {D : Type 0} (disk : Ghosts D) where
+  -- the tape on which so much reads, over the same disk
   abbrev pub shaped : SlotValue → Offsets → View D → View D
   shaped reads room v = record {
     slots = v.slots;
@@ -139,9 +141,11 @@ module _ {D : Type 0} (disk : Ghosts D) where
     past = v.past;
   }
 
+  -- so much may read of each disk that the tape has
   abbrev pub MayRead : SlotValue → Offsets → View D → Type 0
   MayRead reads room v = (d : Files) → disk.held v.slots.disk ≡ Some d → Stands v.room.limits v.base reads room (disk.leaves v.slots.disk) d
 
+  -- a tape on which another amount reads is one
   pub kept_shaped : (v : View D) (reads : SlotValue) (room : Offsets) → IsKept disk v → v.doubt ≡ Settled → Holds room reads → room.limits ≡ v.room.limits
       → MayRead reads room v → IsKept disk (shaped reads room v)
   kept_shaped v reads room kept settled holds same stands =
@@ -162,6 +166,7 @@ module _ {D : Type 0} (disk : Ghosts D) where
             );
       }
 
+  -- the cartridge of a tape on which another amount reads
   pub held_shaped : (v : View D) (reads : SlotValue) (room : Offsets) → v.doubt ≡ Settled → (d : Files) (is : disk.held v.slots.disk ≡ Some d) (stands : MayRead reads room v)
       → held_of disk (shaped reads room v) ≡ Some (whole (stands d is))
   held_shaped v reads room settled d is stands =
@@ -452,6 +457,7 @@ module _ {D : Type 0} (disk : Ghosts D) (part : Part) (a v w : View D) (is : v �
     one_more = more;
   }
 
+  -- the bytes of an item's record stand behind the records that read
   pub stand_at : (bytes : List ℕ) → ((e : Files) → disk.held w.slots.disk ≡ Some e → StandBehind (half_of part a.reads).end bytes (bytes_of (file_of part) e))
       → bytes ≡ record_bytes x → (d : Files) → disk.held v.slots.disk ≡ Some d → StandBehind (half_of part v.reads).end (record_bytes x) (bytes_of (file_of part) d)
   stand_at bytes behind same d held =
@@ -459,12 +465,14 @@ module _ {D : Type 0} (disk : Ghosts D) (part : Part) (a v w : View D) (is : v �
       (subst (λ (l : List ℕ). StandBehind (half_of part a.reads).end l (bytes_of (file_of part) d)) same
       (behind d (ap (λ (y : View D). disk.held y.slots.disk) (sym is) ∙ held)))
 
+  -- the partition ends behind one record more
   pub end_at : (h : Head) (bytes : List ℕ) (from more : ℕ) → record_bytes x ≡ head_bytes h ++ bytes → length bytes ≤ 1048576 → from ≡ (half_of part v.reads).end
       → more ≡ min (from + (5 + length bytes)) (2 ^ 64 - 1) → (d : Files) → disk.held v.slots.disk ≡ Some d → more ≡ (half_of part v.reads).end + width x
   end_at h bytes from more same size at sum d held =
       let long : width x ≡ 5 + length bytes = omega (arith, ap length same, length-append (head_bytes h) bytes, head_size h) in
       omega (arith, at, sum, long, size, end_small part (st0 disk v kept settled d held) (small_of disk v kept part))
 
+  -- the partition counts one record more
   pub count_at : (old more : ℕ) → old ≡ (half_of part v.reads).count → more ≡ min (old + 1) (2 ^ 64 - 1) → more ≡ (half_of part v.reads).count + 1
   count_at old more same sum = omega (arith, same, sum, small_of disk v kept part)
 

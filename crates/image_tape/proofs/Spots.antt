@@ -43,6 +43,7 @@ at_least item.Torn = omega arith
 same_head : (a b : Head) (o : Option Head) → o ≡ Some a → o ≡ Some b → a ≡ b
 same_head a b o is also = same_Some a b (sym is ∙ also)
 
+-- what is answered and read of the record that begins there
 abbrev pub ReadsRecord : Part → ℕ → Option Files → Got → List ℕ → Type 0
 ReadsRecord part from held found buf = (d : Files) (x : Item) → held ≡ Some d → HasRecord from x (bytes_of (file_of part) d) → IsRead (Some x) found buf
 
@@ -50,12 +51,15 @@ module _ (part : Part) (from : ℕ) (held : Option Files) (bytes : List ℕ) (fe
   head_is : (h : Head) → head_of bytes ≡ Some h → (d : Files) (x : Item) → held ≡ Some d → HasRecord from x (bytes_of (file_of part) d) → head_for x ≡ h
   head_is h is d x told has = same_head (head_for x) h (head_of bytes) (head_read from x (bytes_of (file_of part) d) bytes has (fetched d told)) is
 
+  -- a head of a mark is answered as a mark
   pub mark_item : head_of bytes ≡ Some head.Mark → ReadsRecord part from held got.Mark []
   mark_item is d x told has = mark_read x (head_is head.Mark is d x told has)
 
+  -- a head of a Torn is answered as a Torn
   pub torn_item : head_of bytes ≡ Some head.Torn → ReadsRecord part from held got.Torn []
   torn_item is d x told has = torn_read x (head_is head.Torn is d x told has)
 
+  -- bytes that are no head are answered as a Torn
   pub none_item : head_of bytes ≡ None → ReadsRecord part from held got.Torn []
   none_item is d x told has =
       let bad : None ≡ Some (head_for x) = sym is ∙ head_read from x (bytes_of (file_of part) d) bytes has (fetched d told) in
@@ -64,6 +68,7 @@ module _ (part : Part) (from : ℕ) (held : Option Files) (bytes : List ℕ) (fe
   place_is : (place : ℕ) (x : Item) (file : List ℕ) → HasRecord from x file → place ≡ min (from + 5) (2 ^ 64 - 1) → place ≡ from + 5
   place_is place x file has is = omega (arith, has.range, is, at_least x)
 
+  -- a head of a block is answered as a block, with its bytes
   pub block_item : (size place : ℕ) (r : Result Got DriveErr) (buf : List ℕ) → head_of bytes ≡ Some (head.Block size) → place ≡ min (from + 5) (2 ^ 64 - 1)
       → IfOk r (λ found. (d : Files) → held ≡ Some d → buf ≡ bytes_at place size (bytes_of (file_of part) d))
       → IfOk r (λ found. found ≡ got.Block) → IfOk r (λ found. ReadsRecord part from held found buf)
@@ -73,6 +78,7 @@ module _ (part : Part) (from : ℕ) (held : Option Files) (bytes : List ℕ) (fe
       (place_is place x (bytes_of (file_of part) d) has at) (value d told))
   block_item size place (Err why) buf is at value block = tt
 
+  -- the bytes of a block lie within its file
   pub block_inside : (size place : ℕ) → head_of bytes ≡ Some (head.Block size) → place ≡ min (from + 5) (2 ^ 64 - 1)
       → IfSome held (λ d. (x : Item) × HasRecord from x (bytes_of (file_of part) d)) → IfSome held (λ d. place + size ≤ length (bytes_of (file_of part) d))
   block_inside size place is at stands = where_told held (λ d. place + size ≤ length (bytes_of (file_of part) d))
@@ -96,6 +102,7 @@ cap_of Ip disk v kept = kept.limits.ip_most
 cap_of Dp disk v kept = kept.limits.dp_most
 
 module _ {D : Type 0} (disk : Ghosts D) (v : View D) (kept : IsKept disk v) where
+  -- a partition has no more records than there may be
   pub small_of : (part : Part) → (half_of part v.reads).count ≤ most_positions
   small_of part = omega (arith, fits_of part v kept.holds, cap_of part disk v kept)
 
@@ -122,6 +129,7 @@ module _ {D : Type 0} (disk : Ghosts D) (v : View D) (kept : IsKept disk v) wher
       let t = held_is_whole disk v kept settled c is in
       (t.0, t.1, subst (λ (x : Cartridge). InPart part v.reads v.room t.0 x) (sym t.2) (in_part part (tells_of disk v kept settled t.0 t.1).0))
 
+  -- what is read of a record is what stands at its position
   pub reading_record : (at : Place) (from : ℕ) (found : Got) (buf : List ℕ) → at.pos < (half_of at.part v.reads).count → from ≡ get_or (offsets_of at.part v.room) at.pos 0
       → ReadsRecord at.part from (disk.held v.slots.disk) found buf → FillsBuffer found buf → IsReading disk at found buf v
   reading_record at from found buf lt is reads fills = record {
@@ -137,6 +145,7 @@ module _ {D : Type 0} (disk : Ghosts D) (v : View D) (kept : IsKept disk v) wher
     at_capacity = λ le. absurd (omega (arith, le, lt, fits_of at.part v kept.holds));
   }
 
+  -- what is read behind the records is a Torn or the end
   pub reading_behind : (at : Place) (half : Half) (found : Got) (buf : List ℕ) → half ≡ half_of at.part v.reads
       → ((items : List Item) → length items ≡ half.count → IsRead (slice_get (items ++ tail_of half.torn) at.pos) found [])
       → (half.count + flag half.torn ≤ at.pos → found ≡ got.End) → FillsBuffer found [] → buf ≡ [] → IsReading disk at found buf v
@@ -152,6 +161,7 @@ module _ {D : Type 0} (disk : Ghosts D) (v : View D) (kept : IsKept disk v) wher
         (omega (arith, le, fits_of at.part v kept.holds, ap (λ (h : Half). h.count + flag h.torn) same));
   })
 
+-- a head that was found
 abbrev pub some_head : Head → Option Head
 some_head h = Some h
 

@@ -38,6 +38,7 @@ one_by_number limits base value s d (inr new) head next is =
     let equal : s ≡ value = cc same in
     absurd (omega (arith, ap (λ (x : SlotValue). x.serial) equal, next, is))
 
+-- a header with another serial number says the other value
 pub other_by_number : (limits : Limits) (base value s : SlotValue) (d : Files) → SaysOne limits base value d → header limits d.cm ≡ Some s
     → s.serial ≢ base.serial → s ≡ value
 other_by_number limits base value s d (inl old) head isnt =
@@ -74,6 +75,7 @@ module _ {D : Type 0} (disk : Ghosts D) where
     past = v.past;
   }
 
+  -- what the header says is found, in all that a crash leaves too
   pub found_is : slot.KnownAreLeft disk → (v : View D) (limits : Limits) (bytes : List ℕ) (r : Option SlotValue) → slot.IsKept disk v.slots
       → v.slots.known ≡ Steady → bytes ≡ v.slots.value → limits ≡ v.room.limits → r ≡ header_by limits (Some bytes) → IfSome r (λ s. IsFound disk v s)
   found_is left v limits bytes None kept steady is same e = tt
@@ -90,6 +92,7 @@ module _ {D : Type 0} (disk : Ghosts D) where
       → Tells (Open value reads) v (disk.leaves v.slots.disk) d
   opened_tells v value reads kept unsure d is = subst (λ (o : Doubt). Tells o v (disk.leaves v.slots.disk) d) unsure (kept.tells d is)
 
+  -- a tape whose header says the value from before is one with that value
   pub kept_before : (v : View D) (value reads s : SlotValue) → IsKept disk v → v.doubt ≡ Open value reads → v.slots.known ≡ Steady → IsFound disk v s
       → s.serial ≡ v.base.serial → IsKept disk (with_doubt Settled v)
   kept_before v value reads s kept unsure steady found is = record {
@@ -178,9 +181,11 @@ module _ {D : Type 0} (disk : Ghosts D) where
   pub stays_same : (v : View D) → Stays v v
   stays_same v = record { limits = refl; head = refl; faults = refl; opened = refl }
 
+  -- where no command is done, the tape was only looked at
   pub no_looks : (v : View D) → Looks disk 0 v v
   no_looks v = looks_alike v v (stays_same v) refl refl (λ image left. left)
 
+  -- commands that only read the disk only look at the tape
   pub looked : (most : ℕ) (v w : View D) (s : slot.View D) → v ≡ w → disk.held s.disk ≡ disk.held v.slots.disk → AtMost most (disk.commands v.slots.disk) (disk.commands s.disk)
       → CrashesIn disk NothingNew v.slots.disk s.disk → Looks disk most w (with_slots s v)
   looked most v w s is held count crash = subst (λ (x : View D). Looks disk most x (with_slots s v)) is (record {
@@ -190,6 +195,7 @@ module _ {D : Type 0} (disk : Ghosts D) where
     crash = lifted_look disk v.room.limits v.reads.vcr v.reads.vcr v.slots.disk s.disk refl held crash;
   })
 
+  -- commands that only look, one behind the other, only look
   pub then_looks : (m n : ℕ) (a b c : View D) → Looks disk m a b → Looks disk n b c → Looks disk (m + n) a c
   then_looks m n a b c first second = record {
     stays = record {
@@ -204,6 +210,7 @@ module _ {D : Type 0} (disk : Ghosts D) where
         (subst (λ (l : Limits). CrashesOn disk l NothingNew b c) first.stays.limits second.crash);
   }
 
+  -- what looks with so many commands looks with more at most
   pub more_looks : (m n : ℕ) (a b : View D) → m ≤ n → Looks disk m a b → Looks disk n a b
   more_looks m n a b le looks = record {
     stays = looks.stays;
@@ -212,20 +219,25 @@ module _ {D : Type 0} (disk : Ghosts D) where
     crash = looks.crash;
   }
 
+  -- the slots are known by another name of the view too
   pub steady_in : (v w : View D) → v ≡ w → w.slots.known ≡ Steady → v.slots.known ≡ Steady
   steady_in v w is steady = ap (λ (x : View D). x.slots.known) is ∙ steady
 
+  -- the doubt between two values is the same by another name of the view
   pub open_in : (v w : View D) (value reads : SlotValue) → v ≡ w → w.doubt ≡ Open value reads → v.doubt ≡ Open value reads
   open_in v w value reads is unsure = ap (λ (x : View D). x.doubt) is ∙ unsure
 
+  -- what is found of a header is found by another name of the view too
   pub found_in : (v w : View D) (s : SlotValue) → v ≡ w → IsFound disk w s → IsFound disk v s
   found_in v w s is found = subst (λ (x : View D). IsFound disk x s) (sym is) found
 
+  -- a tape whose header says the value that was to be set is one with that value
   pub kept_chosen : (v : View D) (value reads s : SlotValue) (room : Offsets) → IsKept disk v → v.doubt ≡ Open value reads → v.slots.known ≡ Steady
       → IsFound disk v s → s.serial ≢ v.base.serial → room ≡ cut_to reads v.room → IsKept disk (with_value value reads room v)
   kept_chosen v value reads s room kept unsure steady found isnt is =
       subst (λ (x : Offsets). IsKept disk (with_value value reads x v)) (sym is) (kept_after v value reads s kept unsure steady found isnt)
 
+  -- taking the value from before only looks
   pub chosen_before : (v w : View D) (value reads s : SlotValue) → v ≡ w → v.doubt ≡ Open value reads → IsFound disk v s → s.serial ≡ v.base.serial
       → Looks disk 0 w (with_doubt Settled v)
   chosen_before v w value reads s is unsure found same = subst (λ (x : View D). Looks disk 0 x (with_doubt Settled v)) is
@@ -248,6 +260,7 @@ module _ {D : Type 0} (disk : Ghosts D) where
       (h.0, h.1, inl (ahead.1 ∙ same_reference reads.vcr h.0 (sym (ap (λ (x : Cartridge). x.vcr) one ∙ t.5)))))
       h.2
 
+  -- taking the value that was to be set only looks
   pub chosen_after : (v w : View D) (value reads s : SlotValue) (room : Offsets) → v ≡ w → IsKept disk v → v.doubt ≡ Open value reads → IsFound disk v s
       → s.serial ≢ v.base.serial → room ≡ cut_to reads v.room → Looks disk 0 w (with_value value reads room v)
   chosen_after v w value reads s room is kept unsure found isnt cut = subst (λ (x : View D). Looks disk 0 x (with_value value reads room v)) is
@@ -255,11 +268,13 @@ module _ {D : Type 0} (disk : Ghosts D) where
       (record { limits = ap (λ (r : Offsets). r.limits) cut; head = refl; faults = refl; opened = refl }) refl
       (held_after v value reads s room unsure found isnt) (left_after v value reads s kept unsure found isnt))
 
+  -- a tape is still one after a command that only reads the disk
   pub kept_command : {T E : Type 0} (end : Result T E) (v : View D) (s : slot.View D) → IsKept disk v → disk.held s.disk ≡ disk.held v.slots.disk
       → slot.IsCommand disk NothingNew end v.slots s → IsKept disk (with_slots s v)
   kept_command end v s kept held done = kept_look disk v s kept (λ settled. done.over.known) (λ settled. done.over.value) held
       (one_at_most done.count).later done.crash
 
+  -- a command that only reads the disk only looks at the tape
   pub looked_command : {T E : Type 0} (end : Result T E) (v w : View D) (s : slot.View D) → v ≡ w → disk.held s.disk ≡ disk.held v.slots.disk
       → slot.IsCommand disk NothingNew end v.slots s → Looks disk 1 w (with_slots s v)
   looked_command end v w s is held done = looked 1 v w s is held (one_at_most done.count) done.crash
@@ -267,6 +282,7 @@ module _ {D : Type 0} (disk : Ghosts D) where
   settled_steady : (v : View D) → IsKept disk v → v.doubt ≡ Settled → v.slots.known ≡ Steady
   settled_steady v kept settled = subst (λ (o : Doubt). Suits o v) settled kept.suits
 
+  -- a tape is still one after the slots were recovered
   pub kept_recovered : (end : Result (Unit {0}) OpenErr) (v : View D) (s : slot.View D) → IsKept disk v → slot.IsRecovered disk end v.slots s
       → IsKept disk (with_slots s v)
   kept_recovered end v s kept done = kept_look disk v s kept
@@ -274,9 +290,11 @@ module _ {D : Type 0} (disk : Ghosts D) where
       (λ settled. ap (λ (x : slot.View D). x.value) (done.nothing (settled_steady v kept settled)))
       done.held done.count.later done.crash
 
+  -- recovering the slots only looks at the tape
   pub looked_recovered : (end : Result (Unit {0}) OpenErr) (v w : View D) (s : slot.View D) → v ≡ w → slot.IsRecovered disk end v.slots s
       → Looks disk 2 w (with_slots s v)
   looked_recovered end v w s is done = looked 2 v w s is done.held done.count done.crash
 
+  -- what is without doubt is so by another name of the view too
   pub settled_in : (v w : View D) → v ≡ w → w.doubt ≡ Settled → v.doubt ≡ Settled
   settled_in v w is settled = ap (λ (x : View D). x.doubt) is ∙ settled

@@ -45,10 +45,12 @@ module _ {D : Type 0} (disk : Ghosts D) where
       → (d : Files) × (disk.held v.slots.disk ≡ Some d) × (image_by d (Some v.reads) ≡ Ok c)
   told_files v settled c is = told_by v settled c (disk.held v.slots.disk) is
 
+  -- what a tape without doubt knows of the files that the disk tells
   pub tells_of : (v : View D) → IsKept disk v → v.doubt ≡ Settled → (d : Files) → disk.held v.slots.disk ≡ Some d
       → Tells Settled v (disk.leaves v.slots.disk) d
   tells_of v kept settled d is = subst (λ (o : Doubt). Tells o v (disk.leaves v.slots.disk) d) settled (kept.tells d is)
 
+  -- the cartridge that reads is that of all items
   pub held_whole : (v : View D) (kept : IsKept disk v) (settled : v.doubt ≡ Settled) (d : Files) (is : disk.held v.slots.disk ≡ Some d)
       → held_of disk v ≡ Some (whole (tells_of v kept settled d is).0)
   held_whole v kept settled d is =
@@ -89,9 +91,11 @@ module _ {D : Type 0} (disk : Ghosts D) where
   pub is_sure : (v : View D) → IsKept disk v → IsSteady v → IsSure disk v
   is_sure v kept steady = sure_by v kept steady (held_of disk v) refl
 
+  -- a tape whose header is known leaves the reference and attributes as they read
   pub is_sure_at : (v w : View D) → v ≡ w → IsKept disk v → IsSteady w → IsSure disk w
   is_sure_at v w is kept steady = is_sure w (subst (λ (x : View D). IsKept disk x) is kept) steady
 
+  -- a cartridge that reads is that of all items in files that the disk tells
   pub held_is_whole : (v : View D) (kept : IsKept disk v) (settled : v.doubt ≡ Settled) (c : Cartridge) → held_of disk v ≡ Some c
       → (d : Files) × (is : disk.held v.slots.disk ≡ Some d) × (c ≡ whole (tells_of v kept settled d is).0)
   held_is_whole v kept settled c is =
@@ -109,6 +113,7 @@ module _ {D : Type 0} (disk : Ghosts D) where
   note_by Ip s ip dp = refl
   note_by Dp s ip dp = refl
 
+  -- the attribute that the value says is that of the cartridge
   pub note_is : (part : Part) (v w : View D) (a : View D) → v ≡ w → IsKept disk v → w.doubt ≡ Settled → held_of disk w ≡ held_of disk a
       → (c : Cartridge) → held_of disk a ≡ Some c → (half_of part v.reads).note ≡ note_of part c
   note_is part v w a is kept settled held c was =
@@ -150,10 +155,12 @@ module _ {D : Type 0} (disk : Ghosts D) where
     tells = λ d is. tells_in v head faults past v.doubt d (kept.tells d is);
   }
 
+  -- a command that leaves the header known leaves the attributes sure
   pub is_sure_when : {T E : Type 0} (r : Result T E) (v w : View D) → v ≡ w → IsKept disk v → OnOk r (IsSteady w) → OnOk r (IsSure disk w)
   is_sure_when (Ok x) v w is kept settled = is_sure_at v w is kept settled
   is_sure_when (Err why) v w is kept settled = tt
 
+  -- past moments are early by another name of the view too
   pub early_of : (v w : View D) (past : List (ℕ × slot.View D)) → v ≡ w → AreEarlier disk past (disk.commands w.slots.disk)
       → AreEarlier disk past (disk.commands v.slots.disk)
   early_of v w past is early = subst (λ (x : View D). AreEarlier disk past (disk.commands x.slots.disk)) (sym is) early

@@ -122,5 +122,6 @@ module _ {D : Type 0} (disk : Ghosts D) where
         tells_less v.doubt v s (disk.leaves v.slots.disk) (disk.leaves s.disk) d value (old_image crash) (kept.tells d (sym held ∙ is));
   }
 
+  -- a tape over a disk that reads as before has the same cartridge
   pub held_look : (v : View D) (s : slot.View D) → disk.held s.disk ≡ disk.held v.slots.disk → held_of disk (with_slots s v) ≡ held_of disk v
   held_look v s held = held_over v s (disk.held s.disk) ∙ ap (λ (o : Option Files). held_by v o) held

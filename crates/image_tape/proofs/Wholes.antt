@@ -73,6 +73,7 @@ abbrev read_ok : Cartridge → Result Cartridge Refusal
 read_ok c = Ok c
 
 module _ {D : Type 0} (disk : Ghosts D) where
+  -- where the files of both partitions are synced, they are durable
   pub both_stored : {T E : Type 0} (a b : View D) (r : Result T E) → IsFileSure files.Ip (disk.held a.slots.disk) (disk.leaves a.slots.disk)
       → disk.held b.slots.disk ≡ disk.held a.slots.disk → ((image : Files) → disk.leaves b.slots.disk image → disk.leaves a.slots.disk image)
       → OnOk r (IsFileSure files.Dp (disk.held b.slots.disk) (disk.leaves b.slots.disk)) → OnOk r (AreStored disk b)
@@ -104,6 +105,7 @@ module _ {D : Type 0} (disk : Ghosts D) where
         fits_dp = kept.holds.fits_dp;
       }
 
+  -- there is an offset for each record that reads
   pub all_hold : (v : View D) → IsKept disk v → Holds (cut_to v.reads v.room) v.reads
   all_hold v kept = subst (λ (r : Offsets). Holds r v.reads) (sym (cut_all v.room v.reads kept.holds)) kept.holds
 
@@ -112,6 +114,7 @@ module _ {D : Type 0} (disk : Ghosts D) where
   told_or_not v None is = inl refl
   told_or_not v (Some d) is = inr (d, is)
 
+  -- where the disk tells no files, no cartridge is told
   pub untold_held : (v : View D) → disk.held v.slots.disk ≡ None → held_of disk v ≡ None
   untold_held v is = ap (λ (o : Option Files). held_by v o) is
 
@@ -120,6 +123,7 @@ module _ {D : Type 0} (disk : Ghosts D) where
   after_same (Err why) c held (inl h) = h
   after_same (Err why) c held (inr h) = h
 
+  -- a tape under another name of its view is one
   pub kept_at : (v w : View D) → v ≡ w → IsKept disk v → IsKept disk w
   kept_at v w is kept = subst (λ (x : View D). IsKept disk x) is kept
 
@@ -156,6 +160,7 @@ module _ {D : Type 0} (disk : Ghosts D) where
       after_same r (whole st) (held_of disk n) (done.told t.0 (whole st) (whole st) t.1 is to) ∙ sym (held_whole disk w kept settled t.0 t.1))
       (told_or_not w (disk.held w.slots.disk) refl)
 
+  -- all that reads is made durable once it is counted
   pub counted_all : {T E : Type 0} (r : Result T E) (reads : SlotValue) (w n : View D) → IsKept disk w → w.doubt ≡ Settled → reads ≡ w.reads
       → IsCommit disk reads reads r w n → OnOk r (IsTaken reads reads w n) → IsKept disk n → IsStored disk 6 r w n
   counted_all r reads w n kept settled all done taken kept_n = record {
@@ -191,6 +196,7 @@ module _ {D : Type 0} (disk : Ghosts D) where
         (subst (λ (l : Limits). CrashesOn disk l (WithinFlush x) b c) first.stays.limits (second.crash x (first.held ∙ held)));
   }
 
+  -- what fails before anything is counted has stored nothing
   pub not_stored : {T E : Type 0} (why : E) (m n : ℕ) (a b : View D) → m ≤ n → Looks disk m a b → IsStored {T = T} disk n (Err why) a b
   not_stored why m n a b le looks = record {
     stays = looks.stays;
@@ -204,10 +210,12 @@ module _ {D : Type 0} (disk : Ghosts D) where
   abbrev pub note_value : Part → Note → View D → SlotValue
   note_value part note v = with_vcr v.reads.vcr (with_note part note v.base)
 
+  -- setting an attribute leaves the reference
   pub note_number : (part : Part) (note : Note) (s : SlotValue) → (with_note part note s).vcr ≡ s.vcr
   note_number Ip note s = refl
   note_number Dp note s = refl
 
+  -- a header with another attribute would be right
   pub noted_stand : (part : Part) (note : Note) (v : View D) → IsKept disk v → v.doubt ≡ Settled → MayStand disk (note_value part note v) (with_note part note v.reads) v
   noted_stand Ip note v kept settled d is =
       let st = (tells_of disk v kept settled d is).0 in
@@ -238,6 +246,7 @@ module _ {D : Type 0} (disk : Ghosts D) where
         fits_dp = st.fits_dp;
       }
 
+  -- there is still an offset for each record with another attribute
   pub noted_hold : (part : Part) (note : Note) (v : View D) → IsKept disk v → Holds (cut_to (with_note part note v.reads) v.room) (with_note part note v.reads)
   noted_hold Ip note v kept =
       let h = all_hold v kept in record { ip = h.ip; dp = h.dp; fits_ip = h.fits_ip; fits_dp = h.fits_dp }
@@ -263,10 +272,12 @@ module _ {D : Type 0} (disk : Ghosts D) where
   }
   steady_taken (Err why) value reads w n same taken = tt
 
+  -- a value that was taken leaves no doubt
   pub settled_taken : {T E : Type 0} (r : Result T E) (value reads : SlotValue) (w n : View D) → OnOk r (IsTaken value reads w n) → OnOk r (n.doubt ≡ Settled)
   settled_taken (Ok x) value reads w n taken = taken.doubt
   settled_taken (Err why) value reads w n taken = tt
 
+  -- where no cartridge is told, the disk tells no files
   pub none_held : (v : View D) → IsKept disk v → v.doubt ≡ Settled → held_of disk v ≡ None → disk.held v.slots.disk ≡ None
   none_held v kept settled none = ⊎_elim
       (λ (is : disk.held v.slots.disk ≡ None). is)
@@ -385,10 +396,12 @@ there {D = D} P base reads base' reads' v w eb er is h =
     subst (λ (x : View D). P base reads x) is
     (subst (λ (s : SlotValue). P s reads v) (sym eb) (subst (λ (s : SlotValue). P base' s v) (sym er) h))
 
+-- what holds of values and a tape holds under other names of these
 pub back : {D : Type 0} (P : SlotValue → SlotValue → View D → Type 0) (base reads base' reads' : SlotValue) (v w : View D) → base ≡ base' → reads ≡ reads' → v ≡ w
     → P base reads w → P base' reads' v
 back P base reads base' reads' v w eb er is h = there P base' reads' base reads w v (sym eb) (sym er) (sym is) h
 
+-- a commit with another attribute is a setting of it
 pub note_is_set_at : {D T E : Type 0} (disk : Ghosts D) (r : Result T E) (part : Part) (note : Note) (base reads : SlotValue) (v w n : View D) → v ≡ w → IsKept disk v
     → w.doubt ≡ Settled → base ≡ note_value disk part note v → reads ≡ with_note part note v.reads → IsCommit disk base reads r w n
     → OnOk r (IsTaken base reads w n) → IsNoteSet disk part note r w n

@@ -77,6 +77,7 @@ after_no_rise part pos c e (inr risen) = record {
 }
 
 module _ {D T E : Type 0} (disk : Ghosts D) (at : Place) (x : Item) (r : Result T E) (a b n : View D) where
+  -- a cut and an item behind it replace what stood there
   pub replaces_by : Cuts disk at a b → Appends disk 4 at.part x r b n → Replaces disk at x r a n
   replaces_by cut appended = record {
     stays = then_stays a b n cut.stays appended.stays;
@@ -102,6 +103,7 @@ module _ {D T E : Type 0} (disk : Ghosts D) (at : Place) (x : Item) (r : Result 
         (subst (λ (l : Limits). CrashesOn disk l NothingNew b n) cut.stays.limits (appended.crash m.0 m.1)));
   }
 
+  -- a reference that went up and an item in place are a write
   pub writes_by : {U : Type 0} (first : Result U E) (u : U) → Rises {T = U} {E = E} disk at (Ok u) a b → Replaces disk at x r b n → Writes disk 10 at x r a n
   writes_by first u rise replaced = record {
     stays = then_stays a b n rise.stays replaced.stays;
@@ -118,6 +120,7 @@ module _ {D T E : Type 0} (disk : Ghosts D) (at : Place) (x : Item) (r : Result 
         (subst (λ (l : Limits). CrashesOn disk l NothingNew b n) rise.stays.limits (replaced.crash m.0 m.1));
   }
 
+-- where the reference failed to go up, the write failed
 pub not_written : {D T E : Type 0} (disk : Ghosts D) (at : Place) (x : Item) (why : E) (a b : View D) → Rises {T = T} disk at (Err why) a b
     → Writes {T = T} disk 10 at x (Err why) a b
 not_written disk at x why a b rise = record {

@@ -25,9 +25,11 @@ one_count size n q p enough few enough_too few_too = elim (cases_order q p) [
   | inr (inr gt) ↦ absurd (not_more size n p q enough_too few gt)
 ]
 
+-- the blocks of a document have room for all of it
 pub is_enough : (size n : ℕ) → 1 ≤ size → n ≤ div_ceil n size * size
 is_enough size n some = (div_ceil_times n size some).0
 
+-- the blocks of a document have no room for a block more
 pub is_few : (size n : ℕ) → 1 ≤ size → div_ceil n size * size < n + size
 is_few size n some = (div_ceil_times n size some).1
 
@@ -151,6 +153,7 @@ only_so size doc bs some are =
     ∙ ap (λ d. map (block_at size d) (range_with_len 0 (length bs))) are.joined
     ∙ ap (λ n. map (block_at size doc) (range_with_len 0 n)) (counted size doc bs some are)
 
+-- a document is cut into blocks in one way
 pub cut_in_one_way : AreCutInOneWay
 cut_in_one_way = record {
   cut = λ size doc some. cut_so (div_ceil (length doc) size) size doc some refl;
@@ -160,6 +163,7 @@ cut_in_one_way = record {
 
 -- ---- one block of them
 
+-- each piece of the document is the block of its number
 pub block_there : (size : ℕ) (doc : List ℕ) (k : ℕ) (piece : List ℕ) → k < div_ceil (length doc) size → piece ≡ block_at size doc k → slice_get (blocks_of size doc) k ≡ Some piece
 block_there size doc k piece there is =
     let n : ℕ = div_ceil (length doc) size in

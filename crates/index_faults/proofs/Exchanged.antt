@@ -28,5 +28,6 @@ overlap_swap extents i j in_i in_j o =
     overlap_at (swap extents i j) one.to two.to o.offset s.one s.two
     (stay_apart i j o.earlier one.to o.later two.to one.moved two.moved apart) one.is s.covers two.is s.other_covers
 
+-- extents that overlap do so in any order
 pub overlap_moved : (xs ys : List RawExtent) → IsPermutation xs ys → Overlap xs → Overlap ys
 overlap_moved xs ys moved o = IsPermutation-keeps xs Overlap o overlap_swap ys moved

@@ -33,6 +33,7 @@ module _ (extents : List RawExtent) where
     last = inl refl;
   }
 
+  -- once all extents in order are passed without a crossing, none overlap
   pub end : (last at : ℕ) → IsKept extents last at → length extents ≤ at → Overlap extents → ⊥
   end last at kept all o =
       let s = o.shared in
@@ -40,6 +41,7 @@ module _ (extents : List RawExtent) where
       kept.apart o.earlier o.later o.offset o.two (omega (arith, all, less)) s
 
   module _ (last at : ℕ) (kept : IsKept extents last at) (extent : RawExtent) (is : IsAt extents at extent) where
+    -- an extent that begins before the latest end crosses an earlier one
     pub crossed : 0 < extent.count → extent.offset < last → IsCrossed extents
     crossed some less = cross kept.last
       where
@@ -101,6 +103,7 @@ module _ (extents : List RawExtent) where
       last = inr record { place = at; before = omega arith; extent = extent; is = is; some = some; ends = refl };
     }
 
+    -- an extent that begins behind the latest end is passed
     pub step : (new : ℕ) → Follows last extent new → IsKept extents new (at + 1)
     step new (inl none) = subst (λ e. IsKept extents e (at + 1)) (sym none.1) (passed none.0)
     step new (inr some) = subst (λ e. IsKept extents e (at + 1)) (sym some.2) (behind some.0 some.1)

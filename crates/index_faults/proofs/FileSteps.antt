@@ -82,12 +82,15 @@ module _ (nodes : List Node) (at : ℕ) (node : Node) (is : IsAt nodes at node) 
       some_none fault e = cc e
   node_tells_of none (kinds.File bytes extents) is_kind fault h = tells bytes extents is_kind none fault h
 
+  -- a node without a fault of its extents is passed
   pub step : IsNowhereBefore (IsBadFile nodes) at → TellsNode node.uid node.kind None → IsNowhereBefore (IsBadFile nodes) (at + 1)
   step none right = before_more (IsBadFile nodes) at none (node_right_of node.kind refl right)
 
+  -- the fault of the first bad file is the one to tell
   pub told : IsNowhereBefore (IsBadFile nodes) at → (fault : Fault) → TellsNode node.uid node.kind (Some fault) → TellsBad nodes (Some fault)
   told none fault h = node_tells_of none node.kind refl fault h
 
+-- once all nodes are passed, no file is bad
 pub end : (nodes : List Node) (at : ℕ) → IsNowhereBefore (IsBadFile nodes) at → length nodes ≤ at → (k : ℕ) → IsBadFile nodes k → ⊥
 end nodes at none all = nowhere (IsBadFile nodes) at within none
   where

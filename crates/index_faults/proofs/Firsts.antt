@@ -5,6 +5,7 @@ use Rattle.index_model.specs.declared.nodes.Node.{Node}
 use Rattle.index_model.specs.Places.{IsAt}
 use Rattle.index_faults.specs.Firsts.{IsNowhereBefore, IsToldFirst}
 
+-- a node where something holds, and before which it holds nowhere, is told as the first
 pub told_first : (P : ℕ → Type 0) (nodes : List Node) (at uid : ℕ) (node : Node) → IsNowhereBefore P at → P at → IsAt nodes at node → node.uid ≡ uid → IsToldFirst P nodes uid
 told_first P nodes at uid node none here is same = record {
   at = at;
@@ -21,5 +22,6 @@ before_more P at none here before less h =
 pub nowhere : (P : ℕ → Type 0) (n : ℕ) → ((at : ℕ) → P at → at < n) → IsNowhereBefore P n → (at : ℕ) → P at → ⊥
 nowhere P n within none at h = none at (within at h) h
 
+-- false is not true
 pub false_true : false ≡ true → ⊥
 false_true e = cc e

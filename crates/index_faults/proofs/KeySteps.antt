@@ -33,6 +33,7 @@ pub record Ascends (xs : List Xattr) (at : ℕ) : Type 0 where
   pub most : (place below : ℕ) (x last : Xattr) → place ≤ below → below + 1 ≡ at → IsAt xs place x → IsAt xs below last → IsUpTo x.key last.key
 
 module _ (xs : List Xattr) where
+  -- the first key has none before it that it could repeat
   pub ascends_at_first : Ascends xs 1
   ascends_at_first = record {
     fine = λ before less h. omega (arith, less, h.before);
@@ -41,6 +42,7 @@ module _ (xs : List Xattr) where
         up_to_itself x.key last.key (ap (λ k. k.key) (same_element xs below x last (subst (λ k. IsAt xs k x) here is) last_is));
   }
 
+  -- where all keys ascend, none stands again
   pub ascends_end : (at : ℕ) → Ascends xs at → length xs ≤ at → (k : ℕ) → IsAgain xs k → ⊥
   ascends_end at kept all = none_behind xs at kept.fine all
 
@@ -65,6 +67,7 @@ module _ (xs : List Xattr) where
               up_to_itself x.key new.key (ap (λ k. k.key) (same_element xs at x new (subst (λ k. IsAt xs k x) here is) new_is))
         ])
 
+    -- a key above the last one is passed
     pub ascends_more : Ascends xs (at + 1)
     ascends_more = record { fine = before_more (IsAgain xs) at kept.fine not_again; most = most_more }
 
@@ -93,16 +96,19 @@ key_itself : (a b : Bor (List ℕ)) → a.now ≡ b.now → is_at (slot_cmp a) b
 key_itself a b same = rw (same, tied_itself nat_list_cmp_total b.now) refl
 
 module _ (xs : List Xattr) where
+  -- before the first key the set is empty
   pub begin : (seen : BTreeSet (Bor (List ℕ))) → seen.keys ≡ [] → IsKept xs seen 0
   begin seen none = record {
     fine = λ before less. absurd (omega (arith, less));
     knows = knows_none slot_cmp seen (IsThere xs 0) none (λ key t. omega (arith, t.before));
   }
 
+  -- once all keys are passed, none stands again
   pub end : (seen : BTreeSet (Bor (List ℕ))) (at : ℕ) → IsKept xs seen at → length xs ≤ at → (k : ℕ) → IsAgain xs k → ⊥
   end seen at kept all = none_behind xs at kept.fine all
 
   module _ (seen : BTreeSet (Bor (List ℕ))) (at : ℕ) (kept : IsKept xs seen at) (new : Xattr) (is : IsAt xs at new) (key : Bor (List ℕ)) (key_is : key.now ≡ new.key) where
+    -- a key that the set has already stands again
     pub again_here : contains slot_cmp seen key ≡ true → IsAgain xs at
     again_here has =
         let t = kept.knows.found key has in
@@ -130,6 +136,7 @@ module _ (xs : List Xattr) where
               absurd (false_true (sym other ∙ key_itself key k (key_is ∙ sym (ap (λ n. n.key) same) ∙ t.key_is)))
         ]
 
+    -- a key that the set has not is passed and put in the set
     pub step : (next : BTreeSet (Bor (List ℕ))) → contains slot_cmp seen key ≡ false → Updates slot_cmp seen next key true → IsKept xs next (at + 1)
     step next free put = record {
       fine = before_more (IsAgain xs) at kept.fine (free_here free);
@@ -139,6 +146,7 @@ module _ (xs : List Xattr) where
 -- ---- the nodes
 
 module _ (nodes : List Node) (at : ℕ) (none : IsNowhereBefore (HasKeyTwice nodes) at) (node : Node) (is : IsAt nodes at node) where
+  -- a node with a key twice, the first such, is the one to tell
   pub twice_here : TellsTwice node.xattrs true → IsToldFirst (HasKeyTwice nodes) nodes node.uid
   twice_here h =
       let a = h.1 in
@@ -146,6 +154,7 @@ module _ (nodes : List Node) (at : ℕ) (none : IsNowhereBefore (HasKeyTwice nod
       record { node = node; is = is; earlier = a.earlier; later = h.0; two = a.before; one = a.one; one_is = a.one_is; other = a.other; other_is = a.other_is; same = a.same }
       is refl
 
+  -- a node without a key twice is passed
   pub none_here : TellsTwice node.xattrs false → IsNowhereBefore (HasKeyTwice nodes) (at + 1)
   none_here apart = before_more (HasKeyTwice nodes) at none
       (λ h.
@@ -160,5 +169,6 @@ module _ (nodes : List Node) (at : ℕ) (none : IsNowhereBefore (HasKeyTwice nod
         same = h.same;
       })
 
+-- once all nodes are passed, none has a key twice
 pub nodes_end : (nodes : List Node) (at : ℕ) → IsNowhereBefore (HasKeyTwice nodes) at → length nodes ≤ at → (k : ℕ) → HasKeyTwice nodes k → ⊥
 nodes_end nodes at none all = nowhere (HasKeyTwice nodes) at (λ k h. omega (arith, all, slice_get_within nodes k h.node h.is)) none

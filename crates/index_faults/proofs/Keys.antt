@@ -50,6 +50,7 @@ module _ {K : Type 0} (cmp : K → K → Ordering) (seen new : BTreeSet K) (key 
 pub number_is : (a b : ℕ) → is_at (nat_cmp a) b ≡ true → a ≡ b
 number_is a b at = grind (arith, nat_tests, at)
 
+-- equal numbers compare as equal
 pub number_itself : (a b : ℕ) → a ≡ b → is_at (nat_cmp a) b ≡ true
 number_itself a b same = grind (arith, nat_tests, same)
 
@@ -58,6 +59,7 @@ pub was_had : (added had : Bool) → added ≡ false → added ≡ not had → h
 was_had added true is e = refl
 was_had added false is e = absurd (false_true (sym is ∙ e))
 
+-- a key that was added was not there before
 pub was_free : (added had : Bool) → added ≡ true → added ≡ not had → had ≡ false
 was_free added false is e = refl
 was_free added true is e = absurd (false_true (sym e ∙ is))

@@ -65,6 +65,7 @@ pub slot_itself : (a b : Slot) → a.0 ≡ b.0 → a.1 ≡ b.1 → a.2.now ≡ b
 slot_itself a b number parent name = rw (number, parent, name, tied_itself nat_cmp_total b.0, tied_itself nat_cmp_total b.1, tied_itself nat_list_cmp_total b.2.now) refl
 
 module _ (nodes : List Node) where
+  -- behind the root the set of taken names is empty
   pub begin : (seen : BTreeSet Slot) → seen.keys ≡ [] → IsKept nodes seen 1
   begin seen none = record {
     behind_root = omega arith;
@@ -72,10 +73,12 @@ module _ (nodes : List Node) where
     knows = knows_none slot_cmp seen (IsTaken nodes 1) none (λ slot t. omega (arith, t.taken.behind_root, t.taken.before));
   }
 
+  -- once all nodes are passed, no name is taken
   pub end : (seen : BTreeSet Slot) (at : ℕ) → IsKept nodes seen at → length nodes ≤ at → (k : ℕ) → HasTakenName nodes k → ⊥
   end seen at kept all = nowhere (HasTakenName nodes) at (λ k h. omega (arith, all, slice_get_within nodes k h.taken.named h.taken.other_is)) kept.fine
 
   module _ (seen : BTreeSet Slot) (at : ℕ) (kept : IsKept nodes seen at) (node : Node) (is : IsAt nodes at node) (slot : Slot) (number : slot.0 ≡ digest slot.2.now) (parent : slot.1 ≡ node.parent) (name : slot.2.now ≡ node.name) where
+    -- a node whose name the set has for its directory is the first with a taken name
     pub taken_here : contains slot_cmp seen slot ≡ true → IsToldFirst (HasTakenName nodes) nodes node.uid
     taken_here has =
         let t = (kept.knows.found slot has).taken in
@@ -166,6 +169,7 @@ module _ (nodes : List Node) where
               absurd (false_true (sym other ∙ slot_itself slot k (number ∙ ap digest name_same ∙ sym t.number) (parent ∙ sym (ap (λ n. n.parent) same) ∙ t.taken.parent_is) name_same))
         ]
 
+    -- a name that the set has not for its directory is passed and put in the set
     pub step : (new : BTreeSet Slot) → contains slot_cmp seen slot ≡ false → Updates slot_cmp seen new slot true → IsKept nodes new (at + 1)
     step new free put = record {
       behind_root = omega arith;

@@ -42,9 +42,11 @@ less_from_test Less is = refl
 less_from_test Equal is = absurd (false_true is)
 less_from_test Greater is = absurd (false_true is)
 
+-- a name is not above itself
 pub up_to_itself : (name other : List ℕ) → name ≡ other → IsUpTo name other
 up_to_itself name other same = rw (same, tied_itself nat_list_cmp_total other) refl
 
+-- a name not above another is not above one that comes after that
 pub up_to_more : (one two three : List ℕ) → IsUpTo one two → slice_cmp nat_cmp two three ≡ Less → IsUpTo one three
 up_to_more one two three first less = upto nat_list_cmp_total one two three first (ap is_gt less)
 
@@ -55,6 +57,7 @@ not_below name below less up =
     false_true (sym up ∙ ap is_gt (turned ∙ ap ordering_reverse less))
 
 module _ (nodes : List Node) where
+  -- behind the root no directory has a latest node
   pub begin : (latest : List ℕ) → latest ≡ replicate (length nodes) 0 → IsKept nodes latest 1
   begin latest zeros = record {
     long = ap length zeros ∙ length-replicate (length nodes) 0;
@@ -64,6 +67,7 @@ module _ (nodes : List Node) where
     over = λ place node some less. absurd (omega (arith, some, less));
   }
 
+  -- once all nodes are passed with names that ascend, no name is taken
   pub end : (latest : List ℕ) (at : ℕ) → IsKept nodes latest at → length nodes ≤ at → (k : ℕ) → HasTakenName nodes k → ⊥
   end latest at kept all = nowhere (HasTakenName nodes) at (λ k h. omega (arith, all, slice_get_within nodes k h.taken.named h.taken.other_is)) kept.fine
 
@@ -134,6 +138,7 @@ module _ (nodes : List Node) where
               omega (arith, top, below)
         ]
 
+    -- a node whose name comes after the latest of its directory is passed and is then the latest
     pub step : IsKept nodes (set latest node.parent at) (at + 1)
     step = record {
       long = length-set latest node.parent at ∙ kept.long;

@@ -15,12 +15,14 @@ pub record IsKept (highest : ℕ) (nodes : List Node) (last at : ℕ) : Type 0 w
   pub most : (place : ℕ) (node : Node) → place < at → IsAt nodes place node → node.uid ≤ last
 
 module _ (highest : ℕ) (nodes : List Node) where
+  -- before the first node no UID is bad
   pub begin : IsKept highest nodes 0 0
   begin = record {
     fine = λ before less. absurd (omega (arith, less));
     most = λ place node less. absurd (omega (arith, less));
   }
 
+  -- once all nodes are passed with UIDs that ascend, no UID is bad
   pub end : (last at : ℕ) → IsKept highest nodes last at → length nodes ≤ at → (k : ℕ) → HasBadUid highest nodes k → ⊥
   end last at kept all = nowhere (HasBadUid highest nodes) at (λ k h. omega (arith, all, slice_get_within nodes k h.node h.is)) kept.fine
 
@@ -48,6 +50,7 @@ module _ (highest : ℕ) (nodes : List Node) where
               omega (arith, same)
         ]
 
+    -- a UID above the last and up to the highest is passed
     pub step : IsKept highest nodes node.uid (at + 1)
     step = record {
       fine = before_more (HasBadUid highest nodes) at kept.fine fine_here;

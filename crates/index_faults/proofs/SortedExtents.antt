@@ -11,14 +11,17 @@ use Rattle.index_faults.proofs.ExtentSteps.{overlap_crossed}
 use Rattle.index_faults.proofs.Firsts.{false_true}
 
 module _ (extents sorted seen : List RawExtent) (moved : IsPermutation extents sorted) (same : seen ≡ sorted) where
+  -- extents that all end in time do so when they are sorted
   pub still_end : All EndsInTime extents → All EndsInTime seen
   still_end ends = subst (All EndsInTime) (sym same) (All-permutation EndsInTime extents sorted moved ends)
 
+  -- extents that overlap once they are sorted overlap as they were given
   pub found : (apart : Bool) → IsNonDecreasingBy (λ e. e.offset) sorted → (apart ≡ false → IsCrossed seen) → not apart ≡ true → Overlap extents
   found true rises crossed e = absurd (false_true e)
   found false rises crossed e =
       overlap_moved sorted extents (IsPermutation-sym extents sorted moved) (overlap_crossed sorted rises (subst IsCrossed same (crossed refl)))
 
+  -- where the sorted extents don't overlap, those that were given don't either
   pub none_found : (apart : Bool) → (apart ≡ true → Overlap seen → ⊥) → not apart ≡ false → Overlap extents → ⊥
   none_found true none e o = none refl (subst Overlap (sym same) (overlap_moved extents sorted moved o))
   none_found false none e o = absurd (false_true (sym e))

@@ -25,6 +25,7 @@ module _ (highest : ℕ) (nodes : List Node) where
     knows = knows_none nat_cmp seen (IsTakenUid nodes 0) none (λ key taken. omega (arith, taken.before));
   }
 
+  -- once all nodes are passed with UIDs in bounds and not taken, none is bad
   pub end : (seen : BTreeSet ℕ) (at : ℕ) → IsKept highest nodes seen at → length nodes ≤ at → (k : ℕ) → HasBadUid highest nodes k → ⊥
   end seen at kept all = nowhere (HasBadUid highest nodes) at (λ k h. omega (arith, all, slice_get_within nodes k h.node h.is)) kept.fine
 
@@ -32,10 +33,12 @@ module _ (highest : ℕ) (nodes : List Node) where
     bad_here : (node.uid ≡ 0) ⊎ (IsTakenUid nodes at node.uid ⊎ (highest < node.uid)) → IsToldFirst (HasBadUid highest nodes) nodes node.uid
     bad_here bad = told_first (HasBadUid highest nodes) nodes at node.uid node kept.fine record { node = node; is = is; bad = bad } is refl
 
+    -- the first node with a UID out of bounds is the one to tell
     pub out_here : (node.uid ≡ 0) ⊎ (highest < node.uid) → IsToldFirst (HasBadUid highest nodes) nodes node.uid
     out_here (inl none) = bad_here (inl none)
     out_here (inr over) = bad_here (inr (inr over))
 
+    -- the first node with a UID that another has is the one to tell
     pub taken_here : contains nat_cmp seen node.uid ≡ true → IsToldFirst (HasBadUid highest nodes) nodes node.uid
     taken_here has = bad_here (inr (inl (kept.knows.found node.uid has)))
 
@@ -62,6 +65,7 @@ module _ (highest : ℕ) (nodes : List Node) where
           ]
         ]
 
+    -- a UID in bounds that the set has not is passed and put in the set
     pub step : (new : BTreeSet ℕ) → 1 ≤ node.uid → node.uid ≤ highest → contains nat_cmp seen node.uid ≡ false → Updates nat_cmp seen new node.uid true → IsKept highest nodes new (at + 1)
     step new some most free put = record {
       fine = before_more (HasBadUid highest nodes) at kept.fine (fine_here some most free);

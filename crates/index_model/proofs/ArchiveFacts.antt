@@ -207,6 +207,7 @@ formed at times = record {
   kinds = (tt, (tt, ((record { offset = omega arith; letter = letter 98 refl refl; block = omega arith; byte = omega arith; count = omega arith }, tt), (IsUtf8-from_ascii (codes "docs/read me.txt") (ascii (codes "docs/read me.txt") refl), tt))));
 }
 
+-- the index of the example archive is valid
 pub archive_is_valid : (at : Moment) (times : Times) → IsValid (archive at times)
 archive_is_valid at times = record {
   formed = formed at times;

@@ -4,6 +4,7 @@ use Rattle.std.proofs.lemmas.List.{take-append-le, drop-append-le}
 use Rattle.std.proofs.Math.Seq.{drop-append_seam, take-length}
 use Rattle.index_model.specs.Cuts.{cut, start, AreTexts}
 
+-- there are as many texts as ends
 pub cut_length : (from : ℕ) (ends bytes : List ℕ) → length (cut from ends bytes) ≡ length ends
 cut_length from [] bytes = refl
 cut_length from (end ∷ ends) bytes = ap suc (cut_length end ends bytes)
@@ -31,12 +32,14 @@ last_piece from n bytes text e size =
     let all : n - from ≡ length text = omega arith in
     ap (λ (k : ℕ). take (n - from) (drop k (bytes ++ text))) e ∙ ap (take (n - from)) (drop-append_seam bytes text) ∙ ap (λ (k : ℕ). take k text) all ∙ take-length text
 
+-- one text more at the end is one more of the texts
 pub cut_more : (from : ℕ) (ends bytes text : List ℕ) (n : ℕ) → AreTexts from ends bytes → n ≡ length bytes + length text → cut from (ends ++ n ∷ []) (bytes ++ text) ≡ cut from ends bytes ++ text ∷ []
 cut_more from [] bytes text n are size = ap (λ (t : List ℕ). t ∷ []) (last_piece from n bytes text are size)
 cut_more from (end ∷ ends) bytes text n are size =
     ap (λ (t : List ℕ). t ∷ cut end (ends ++ n ∷ []) (bytes ++ text)) (piece_stays from end bytes text are.0 are.1)
     ∙ ap (λ (ts : List (List ℕ)). take (end - from) (drop from bytes) ∷ ts) (cut_more end ends bytes text n are.3 size)
 
+-- a UTF-8 text put behind the others leaves all of them whole
 pub texts_more : (from : ℕ) (ends bytes text : List ℕ) (n : ℕ) → AreTexts from ends bytes → IsUtf8 text → n ≡ length bytes + length text → AreTexts from (ends ++ n ∷ []) (bytes ++ text)
 texts_more from [] bytes text n are utf8 size =
     (omega arith, omega (arith, length-append bytes text), subst IsUtf8 (sym (last_piece from n bytes text are size)) utf8, omega (arith, length-append bytes text))
@@ -55,6 +58,7 @@ pub record IsPiece (texts : List (List ℕ)) (bytes : List ℕ) (at from end : �
   pub text : IsUtf8 (take (end - from) (drop from bytes))
   pub is : take (end - from) (drop from bytes) ≡ get_or texts at []
 
+-- the place of a text among those that stand one behind the other
 pub piece : (ends bytes front all : List ℕ) (texts : List (List ℕ)) (at from end d : ℕ) → AreTexts 0 ends bytes → cut 0 ends bytes ≡ texts → front ≡ ends → all ≡ bytes → at < length texts → from ≡ start 0 front at → end ≡ get_or ends at d → IsPiece texts all at from end
 piece ends bytes front all texts at from end d are view is_front is_all lt begins ends_at =
     let inside : at < length ends = omega (arith, lt, ap length view, cut_length 0 ends bytes) in

@@ -21,6 +21,7 @@ use Rattle.index_model.specs.declared.faults.Fault.TheVariants as faults
 use Rattle.index_model.specs.Uids.{AreUids, HasBadUid}
 use Rattle.index_model.proofs.Walks.{each, same_element}
 
+-- a highest UID above 2^62 is told as a fault
 pub highest_over : (at : Moment) (times : Times) → IsToldOf (index_of at (2 ^ 62 + 1) (archive_nodes times)) (faults.Uid (2 ^ 62 + 1))
 highest_over at times = inl record { over = omega arith; same = refl }
 
@@ -39,6 +40,7 @@ right_before times highest at small h =
       ]
     ]
 
+-- a UID above the highest is told as a fault
 pub uid_over : (at : Moment) (times : Times) → IsToldOf (index_of at 3 (archive_nodes times)) (faults.Uid 4)
 uid_over at times = inr (inl record {
   bounded = omega arith;
@@ -50,6 +52,7 @@ uid_over at times = inr (inl record {
   told = record { node = _; is = refl; same = refl };
 })
 
+-- a node that stands behind its directory's sibling is out of order
 pub late : (times : Times) → ¬ AreInOrder (late_node times)
 late times order = in_b (order.together 2 _ refl)
   where
@@ -61,6 +64,7 @@ late times order = in_b (order.together 2 _ refl)
         let same = same_element (late_node times) 2 (node times 0 3 (codes "b") kinds.Dir) n refl is in
         in_root (subst (λ x. LiesIn (late_node times) x.parent 1) (sym same) way)
 
+-- a node inside a file is out of order
 pub in_file : (times : Times) → ¬ AreInOrder (node_in_file times)
 in_file times order =
     let dir = order.dirs 2 _ refl in
@@ -106,6 +110,7 @@ file_keys times kind at h =
     each (λ k x. (i : ℕ) (a : Xattr) → IsAt x.xattrs i a → ⊥) (with_file times kind)
     ((λ i a is. each {X = Xattr} (λ _ _. ⊥) [] tt i a is), ((λ i a is. each {X = Xattr} (λ _ _. ⊥) [] tt i a is), tt)) at h.node h.is h.earlier h.one h.one_is
 
+-- a key that a node has twice is told as a fault
 pub key_twice : (at : Moment) (times : Times) → IsToldOf (index_of at 2 (two_notes times)) (faults.SameKey 2)
 key_twice at times = record {
   uids = file_uids times _ _;
@@ -130,6 +135,7 @@ root_fine : (times : Times) (kind : NodeKind) (before : ℕ) → before < 1 → 
 root_fine times kind before small (inl out) = no_file_at_root times kind before out.bytes out.extents small out.file
 root_fine times kind before small (inr over) = no_file_at_root times kind before over.bytes over.extents small over.file
 
+-- an extent that ends too late is told as a fault
 pub too_long : (at : Moment) (times : Times) → IsToldOf (index_of at 2 (long_file times)) (faults.Extent 2)
 too_long at times =
     let out : IsOutOfBounds (long_file times) 1 = record { bytes = 2 ^ 40 + 1; extents = []; file = record { node = _; is = refl; file = refl }; out = inl (omega arith) } in
@@ -163,6 +169,7 @@ within times h =
           omega (arith, far.far, each (λ k e. e.offset + e.count ≤ 5) both (omega arith, (omega arith, tt)) far.at far.extent is)
     ]
 
+-- extents that share a byte are told as a fault
 pub overlap : (at : Moment) (times : Times) → IsToldOf (index_of at 2 (shared_byte times)) (faults.Overlap 2)
 overlap at times =
     let shared : ShareOffset both 0 1 4 = record {
@@ -192,6 +199,7 @@ overlap at times =
       overlap = over;
     }
 
+-- a name twice in one directory is told as a fault
 pub name_taken : (at : Moment) (times : Times) → IsToldOf (index_of at 3 (one_name times)) (faults.SameName 2)
 name_taken at times = record {
   uids = record {
@@ -236,6 +244,7 @@ touching_file times at bytes extents f =
     each (λ k x. x.kind ≡ kinds.File bytes extents → (bytes ≡ 5) × (extents ≡ touching)) (with_file times (kinds.File 5 touching))
     ((λ e. absurd (dir_file bytes extents e)), ((λ e. file_parts 5 bytes touching extents e), tt)) at f.node f.is f.file
 
+-- extents that only touch are allowed
 pub touching_fine : (times : Times) → AreFiles (with_file times (kinds.File 5 touching))
 touching_fine times = record {
   size = λ at bytes extents f. subst (λ b. b ≤ longest_file) (sym (touching_file times at bytes extents f).0)

@@ -85,6 +85,7 @@ apart_kinds index m n a b =
     let e = same_file index a.at b.at m n a.bad b.bad in
     b.within (subst (IsOutOfBounds index.nodes) e.0 a.out)
 
+-- one fault at most is told of an index
 pub one_fault : (index : Index) (a b : Fault) → IsToldOf index a → IsToldOf index b → a ≡ b
 one_fault index (faults.Uid m) (faults.Uid n) h k = ap faults.Uid (same_uid index m n h k)
 one_fault index (faults.Uid m) (faults.SameName n) h k = absurd (refused_uid index m k.uids h)
@@ -112,6 +113,7 @@ one_fault index (faults.Overlap m) (faults.SameKey n) h k = absurd (h.bad.keys k
 one_fault index (faults.Overlap m) (faults.Extent n) h k = absurd (apart_kinds index n m k h)
 one_fault index (faults.Overlap m) (faults.Overlap n) h k = ap faults.Overlap (same_file index h.at k.at m n h.bad k.bad).1
 
+-- of an index whose parts agree no fault is told
 pub agrees_no_fault : (index : Index) (a : Fault) → IsToldOf index a → ¬ Agrees index
 agrees_no_fault index (faults.Uid n) h right = refused_uid index n right.uids h
 agrees_no_fault index (faults.SameName n) h right = taken_name_no index.nodes h.at right.names h.first.here

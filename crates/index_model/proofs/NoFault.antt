@@ -83,6 +83,7 @@ module _ (highest : ℕ) (nodes : List Node) (bounded : highest ≤ 2 ^ 62) (non
   one_uid i j less h =
       none j record { node = h.named; is = h.other_is; bad = inr (inl record { earlier = i; before = less; node = h.node; is = h.is; same = h.same }) }
 
+  -- where the root's UID is 1 and no UID is bad, the UIDs are as they must be
   pub uids_are : ((node : Node) → IsAt nodes 0 node → node.uid ≡ 1) → AreUids highest nodes
   uids_are root = record {
     bounded = bounded;
@@ -156,5 +157,6 @@ module _ (index : Index) (none : (a : Fault) → IsToldOf index a → ⊥) where
   agrees : Agrees index
   agrees = record { uids = uids; names = names; keys = keys; files = files_are index.nodes no_bad_file }
 
+-- an index of which no fault is told agrees
 pub no_fault_agrees : (index : Index) → ((a : Fault) → ¬ IsToldOf index a) → Agrees index
 no_fault_agrees index none = agrees index none

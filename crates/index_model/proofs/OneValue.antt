@@ -119,6 +119,7 @@ same_value v w volume root inside =
     let step : (facts : VolumeFacts) (root : NodeFacts) (tree : Nodes) → IndexValue = λ facts root tree. record { volume = facts; root = root; inside = tree } in
     ap (λ x. step x v.root v.inside) volume ∙ ap (λ x. step w.volume x v.inside) root ∙ ap (λ x. step w.volume w.root x) inside
 
+-- an index tells one value at most
 pub one_value : (index : Index) (v w : IndexValue) → Tells index v → Tells index w → v ≡ w
 one_value index v w a b =
     let both : all_nodes v ≡ all_nodes w = sym a.nodes ∙ b.nodes in

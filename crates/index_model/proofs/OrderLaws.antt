@@ -17,6 +17,7 @@ parent_within nodes at upper node is behind (itself same) = absurd (omega (arith
 parent_within nodes at upper node is behind (through same over other from other_is way) =
     subst (λ n. LiesIn nodes n.parent upper) (same_element nodes at other node other_is is) way
 
+-- what lies between a directory and something in it lies in it too
 pub together : (nodes : List Node) (upper at later : ℕ) (node : Node) → AreInOrder nodes → upper < at → at < later → IsAt nodes later node → LiesIn nodes later upper → LiesIn nodes at upper
 together nodes upper at zero node order behind before is h = absurd (omega (arith, before))
 together nodes upper at (suc later) node order behind before is h =

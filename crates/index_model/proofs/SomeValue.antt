@@ -178,6 +178,7 @@ all_read : (nodes : List Node) (order : AreInOrder nodes) (tree : IsRead nodes 0
 all_read nodes order tree None e = nothing_left nodes tree.end e
 all_read nodes order tree (Some node) e = absurd (omega (arith, tree.up node e))
 
+-- an index in the order of the document tells a value
 pub some_value : (index : Index) → AreInOrder index.nodes → (v : IndexValue) × Tells index v
 some_value index order =
     let nodes = index.nodes in

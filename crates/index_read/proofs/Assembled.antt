@@ -117,6 +117,7 @@ behind i is node s fits other r = record {
   list = r.list;
 }
 
+-- where no root was told yet, the elements of an index tell its root and all nodes
 pub root_told : (seen : List Tag) (is : Items) (node : ℕ) (s : State) → Fits place.Index seen is → member Directory seen ≡ false → s.nodes ≡ [] → RootTold is node s
 root_told seen no_items node s fits new none = absurd (let bad : true ≡ false = sym (missing_member Directory (required place.Index) seen fits refl) ∙ new in cc)
 root_told seen (item i is) node s fits new none =
@@ -137,6 +138,7 @@ pub record Assembled (text : List ℕ) (s : State) : Type 0 where
   pub volume : value.volume ≡ s.volume
   pub nodes : all_nodes value ≡ s.nodes
 
+-- a whole document spells the elements that its pieces tell of
 pub assembled : (text : List ℕ) (s : State) → IsUtf8 text → IsWhole text s → Assembled text s
 assembled text s valid w =
     let p = elements_of place.Index text w.ps valid w.accepts in

@@ -58,5 +58,6 @@ decoded_bytes s bs are e =
     let last = last_bytes enc dec s pad (4 * front) inverse are (omega arith) in
     decode_of_bytes standard s bs (joined (groups_bytes dec s front) (suffix_bytes dec pad (4 * front) s) whole last) e
 
+-- what a text in base64 stands for is bytes
 pub base64_bytes : (text bs : List ℕ) → IsBytes text → from_base64 text ≡ Some bs → IsBytes bs
 base64_bytes text bs are e = decoded_bytes (without_space text) bs (kept_bytes (λ b. not (is_space b)) text are) (decoded text bs e)

@@ -32,6 +32,7 @@ pub record Read (text : List ℕ) (v : IndexValue) : Type 0 where
   pub volume : v.volume ≡ state.volume
   pub nodes : all_nodes v ≡ state.nodes
 
+-- a text that spells a value is read as it
 pub spelled_whole : (text : List ℕ) (v : IndexValue) → Spells text v → Read text v
 spelled_whole text v s =
     let fits = all_fit text place.Index [] s.spelled.inside s.items s.spelled.end s.spelled.children in
@@ -66,6 +67,7 @@ one_spelled text a b v w s t h k =
     let same = one_whole text x.state y.state x.whole y.whole in
     tells_one a b v w h k (x.volume ∙ ap (λ (z : State). z.volume) same ∙ sym y.volume) (x.nodes ∙ ap (λ (z : State). z.nodes) same ∙ sym y.nodes)
 
+-- a text is that of one index at most
 pub one_index_text : (text : List ℕ) (a b : Index) → IndexText text a → IndexText text b → a ≡ b
 one_index_text text a b h k = one_spelled text a b h.value k.value h.spells k.spells h.tells k.tells
 
@@ -75,6 +77,7 @@ spelled_goes text v e s stops =
     let x = spelled_whole text v s in
     pieces_go place.Index text x.whole.ps stops.why s.spelled.valid x.whole.accepts stops.stops
 
+-- the text of an index stops nowhere
 pub never_both : (text : List ℕ) (index : Index) (e : IndexErr) → IndexText text index → Stops text e → ⊥
 never_both text index e h (inl stops) = spelled_goes text h.value e h.spells stops
 never_both text index e h (inr faulty) =
@@ -82,6 +85,7 @@ never_both text index e h (inr faulty) =
     let same = one_spelled text index f.index h.value f.value h.spells f.spells h.tells f.tells in
     agrees_no_fault f.index faulty.0 f.told (subst Agrees same h.agrees)
 
+-- a text that is no index's is refused in one way
 pub one_refusal : (text : List ℕ) (e f : IndexErr) → Stops text e → Stops text f → e ≡ f
 one_refusal text e f (inl h) (inl k) = h.told ∙ ap refusal_told (one_stop place.Index text h.why k.why h.stops k.stops) ∙ sym k.told
 one_refusal text e f (inl h) (inr k) = absurd (spelled_goes text k.1.value e k.1.spells h)

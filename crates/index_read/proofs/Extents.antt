@@ -19,6 +19,7 @@ use Rattle.index_read.specs.Told.{State, number_or, letter_or, extent_with, blan
 use Rattle.index_read.proofs.Fits.{Fits, must_tell, told_form}
 use Rattle.index_read.proofs.OfForms.{number_step, letter_step, number_known, letter_known}
 
+-- a change at a place between others changes what stands there alone
 pub changed_at : {X : Type 0} (front : List X) (x : X) (behind : List X) (f : X → X) → changed (length front) f (front ++ (x ∷ behind)) ≡ front ++ (f x ∷ behind)
 changed_at [] x behind f = refl
 changed_at (y ∷ front) x behind f = ap (λ zs. y ∷ zs) (changed_at front x behind f)
@@ -73,6 +74,7 @@ only_extent is e t = rw (t.offset, t.letter, t.block, t.byte, t.count) refl
 
 -- ---- extents
 
+-- the extents that elements are
 abbrev pub extents_in : Items → List RawExtent
 extents_in no_items = []
 extents_in (item (nested place.Extent is) more) = extent_in is ∷ extents_in more
@@ -84,6 +86,7 @@ with_more es kinds.Dir = kinds.Dir
 with_more es (kinds.File bytes extents) = kinds.File bytes (extents ++ es)
 with_more es (kinds.Link text) = kinds.Link text
 
+-- with no extents more a node is what it was
 pub with_none : (k : NodeKind) → k ≡ with_more [] k
 with_none kinds.Dir = refl
 with_none (kinds.File bytes extents) = ap (λ (es : List RawExtent). kinds.File bytes es) (sym (append-nil extents))
@@ -98,6 +101,7 @@ with_next e es (kinds.Link text) = refl
 abbrev pub nodes_with : List NodeValue → ℕ → NodeFacts → List NodeValue → NodeKind → List NodeValue
 nodes_with front parent f behind k = front ++ (value_in parent f k ∷ behind)
 
+-- the elements of a file's extents put them behind those it has
 pub extents_told : (seen : List Tag) (is : Items) (s : State) (front : List NodeValue) (parent : ℕ) (f : NodeFacts) (k : NodeKind) (behind : List NodeValue) → Fits place.ExtentInfo seen is → s.nodes ≡ nodes_with front parent f behind k
     → (items_told place.ExtentInfo (length front) is s).nodes ≡ nodes_with front parent f behind (with_more (extents_in is) k)
 extents_told seen no_items s front parent f k behind fits at = at ∙ ap (nodes_with front parent f behind) (with_none k)
@@ -140,10 +144,12 @@ abbrev pub extents_of : Option Items → List RawExtent
 extents_of None = []
 extents_of (Some is) = extents_in is
 
+-- the extents of elements are those that a file with these elements has
 pub has_extents : (o : Option Items) → ((is : Items) → o ≡ Some is → Fits place.ExtentInfo [] is) → HasExtents o (extents_of o)
 has_extents None fits = refl
 has_extents (Some is) fits = extents_tell [] is (fits is refl)
 
+-- a file's elements tell one list of extents
 pub only_has : (o : Option Items) (es : List RawExtent) → HasExtents o es → es ≡ extents_of o
 only_has None es h = h
 only_has (Some is) es h = only_extents is es h

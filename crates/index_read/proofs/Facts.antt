@@ -22,6 +22,7 @@ use Rattle.index_read.proofs.OfForms.{IsOf, or_none, number_step, words_step, ti
 
 -- ---- elements that aren't there
 
+-- an element that a place does not know tells no such fact
 pub not_own : (p : Container) (i : Item) (t : Tag) → FitsItem p i → rule p t ≡ child.Unknown → own t i ≡ None
 not_own p (plain u w) t fits unknown = by (code t == code u) refl
   where
@@ -38,6 +39,7 @@ follows_once p seen t u follows same there once =
     let bad : true ≡ false = rw (there, once) at h in
     cc
 
+-- an element of which there may be one only, and has been, tells the fact no more
 pub not_now : (p : Container) (seen : List Tag) (i : Item) (t : Tag) → MayFollow p seen (item_tag i) → member t seen ≡ true → may_repeat p t ≡ false → own t i ≡ None
 not_now p seen (plain u w) t follows there once = by (code t == code u) refl
   where
@@ -47,9 +49,11 @@ not_now p seen (plain u w) t follows there once = by (code t == code u) refl
 not_now p seen (bare q) t follows there once = refl
 not_now p seen (nested q is) t follows there once = refl
 
+-- an element that stood earlier has still stood later
 pub member_later : (t u : Tag) (seen : List Tag) → member t seen ≡ true → member t (u ∷ seen) ≡ true
 member_later t u seen there = or_right (code t == code u) (member t seen) there
 
+-- a fact that was told and may not be told again is told by no later element
 pub not_again : (p : Container) (seen : List Tag) (is : Items) (t : Tag) → Fits p seen is → member t seen ≡ true → may_repeat p t ≡ false → told t is ≡ None
 not_again p seen no_items t fits there once = refl
 not_again p seen (item i is) t fits there once =
@@ -70,9 +74,11 @@ unfolding numbered places
 back_from_number place.Index = refl
 back_from_number _ = refl
 
+-- places with the same number are one
 pub same_place : (p q : Container) → (place_code p == place_code q) ≡ true → p ≡ q
 same_place p q e = sym (back_from_number p) ∙ ap (λ n. numbered n places) (eqb-true (place_code p) (place_code q) e) ∙ back_from_number q
 
+-- where a parent has stood and may not again, no later one stands
 pub no_inside : (p : Container) (seen : List Tag) (is : Items) (q : Container) → Fits p seen is → member (tag_of q) seen ≡ true → may_repeat p (tag_of q) ≡ false → inside q is ≡ None
 no_inside p seen no_items q fits there once = refl
 no_inside p seen (item i is) q fits there once =
@@ -123,9 +129,11 @@ facts_from is f = record {
   xattrs = xattrs_or f.xattrs (inside place.Attributes is);
 }
 
+-- the facts of a node before anything is told
 abbrev pub blank_facts : NodeFacts
 blank_facts = record { uid = 0; name = []; times = blank_times; readonly = false; xattrs = [] }
 
+-- the facts of a node that elements tell
 abbrev pub facts_in : Items → NodeFacts
 facts_in is = facts_from is blank_facts
 
@@ -140,6 +148,7 @@ pub record FactForms (is : Items) : Type 0 where
   pub backup : IsOf time (told BackupTime is)
   pub readonly : IsOf truth (told ReadOnly is)
 
+-- the elements of a directory tell facts in the right forms
 pub directory_forms : (seen : List Tag) (is : Items) → Fits place.Directory seen is → FactForms is
 directory_forms seen is fits = record {
   uid = λ v e. told_form place.Directory seen is FileUid form.Number v fits refl e;
@@ -152,6 +161,7 @@ directory_forms seen is fits = record {
   readonly = λ v e. told_form place.Directory seen is ReadOnly form.Truth v fits refl e;
 }
 
+-- the elements of a file tell facts in the right forms
 pub file_forms : (seen : List Tag) (is : Items) → Fits place.File seen is → FactForms is
 file_forms seen is fits = record {
   uid = λ v e. told_form place.File seen is FileUid form.Number v fits refl e;
@@ -201,6 +211,7 @@ facts_attributes x is f none =
     ∙ no_leaves place.Attributes x is f (f.xattrs ++ xattrs_in x)
     ∙ ap (λ (o : Option Items). record (facts_from is f) { xattrs = xattrs_or (f.xattrs ++ xattrs_in x) o }) (sym none)
 
+-- the elements of a directory tell the facts that a reader takes from them
 pub directory_facts : (is : Items) → Fits place.Directory [] is → TellsFacts is (facts_in is)
 directory_facts is fits = record {
   uid = number_known 0 (told FileUid is) (must_tell place.Directory is FileUid form.Number fits refl refl);
@@ -214,6 +225,7 @@ directory_facts is fits = record {
   xattrs = has_xattrs (inside place.Attributes is) (λ x e. inside_fits place.Directory [] is place.Attributes x fits e);
 }
 
+-- the elements of a file tell the facts that a reader takes from them
 pub file_facts : (is : Items) → Fits place.File [] is → TellsFacts is (facts_in is)
 file_facts is fits = record {
   uid = number_known 0 (told FileUid is) (must_tell place.File is FileUid form.Number fits refl refl);
@@ -232,5 +244,6 @@ pub only_facts : (is : Items) (f : NodeFacts) → TellsFacts is f → f ≡ fact
 only_facts is f t =
     rw (t.uid, t.name, t.create, t.change, t.modify, t.access, t.backup, t.readonly, ← no_other_xattrs (inside place.Attributes is) f.xattrs t.xattrs) refl
 
+-- elements tell one set of facts of a node
 pub one_facts : (is : Items) (a b : NodeFacts) → TellsFacts is a → TellsFacts is b → a ≡ b
 one_facts is a b x y = only_facts is a x ∙ sym (only_facts is b y)

@@ -110,6 +110,7 @@ file_attributes x is front parent f bytes es behind none =
     ap (λ (g : NodeFacts). nodes_with front parent g behind (file_kind is bytes es)) (sym (facts_attributes x is f none))
     ∙ ap (nodes_with front parent (facts_from (item (nested place.Attributes x) is) f) behind) (rw (or_none (told Length is), or_none (told Symlink is), or_none (inside place.ExtentInfo is)) refl)
 
+-- the elements of a file change the last node into that file
 pub file_told : (seen : List Tag) (is : Items) (s : State) (front : List NodeValue) (parent : ℕ) (f : NodeFacts) (bytes : ℕ) (es : List RawExtent) (behind : List NodeValue) → Fits place.File seen is → s.nodes ≡ nodes_with front parent f behind (kinds.File bytes es)
     → (items_told place.File (length front) is s).nodes ≡ nodes_with front parent (facts_from is f) behind (file_kind is bytes es)
 file_told seen no_items s front parent f bytes es behind fits at = at ∙ ap (λ (xs : List RawExtent). nodes_with front parent f behind (kinds.File bytes xs)) (sym (append-nil es))
@@ -137,12 +138,14 @@ abbrev pub file_in : Option Val → Items → Nodes → Nodes
 file_in (Some (words text)) is behind = link (facts_in is) text behind
 file_in _ is behind = file (facts_in is) (number_or 0 (told Length is)) (extents_of (inside place.ExtentInfo is)) behind
 
+-- the list of nodes begins with the file or link that elements tell
 pub file_listed : (o : Option Val) (is : Items) (parent at : ℕ) (behind : Nodes)
     → listed parent at (file_in o is behind) ≡ value_in parent (facts_in is) (link_or (kinds.File (number_or 0 (told Length is)) (extents_of (inside place.ExtentInfo is))) o) ∷ listed parent (at + 1) behind
 file_listed None is parent at behind = refl
 file_listed (Some (words text)) is parent at behind = refl
 file_listed (Some _) is parent at behind = refl
 
+-- the elements of a file tell a file or a link
 pub file_tells : (is : Items) (behind : Nodes) → Fits place.File [] is → TellsFile is (file_in (told Symlink is) is behind) behind ⊎ TellsLink is (file_in (told Symlink is) is behind) behind
 file_tells is behind fits = by (told Symlink is) refl
   where
@@ -161,6 +164,7 @@ file_tells is behind fits = by (told Symlink is) refl
         let text = told_form place.File [] is Symlink form.AnyName w fits refl h in
         inr (record { facts = facts_in is; text = text.0; node = ap (λ (v : Val). file_in (Some v) is behind) text.1; tells = file_facts is fits; told_text = h ∙ ap (λ (v : Val). Some v) text.1 })
 
+-- elements of a file tell one node only
 pub only_file : (is : Items) (nodes behind : Nodes) → TellsFile is nodes behind ⊎ TellsLink is nodes behind → nodes ≡ file_in (told Symlink is) is behind
 only_file is nodes behind (inl t) = t.node ∙ rw (t.no_text, only_facts is t.facts t.tells, only_has (inside place.ExtentInfo is) t.extents t.has, t.length) refl
 only_file is nodes behind (inr t) = t.node ∙ rw (t.told_text, only_facts is t.facts t.tells) refl

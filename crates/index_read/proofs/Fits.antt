@@ -146,11 +146,13 @@ unfolding coded_in
 back_from_code LtfsLabel = refl
 back_from_code _ = refl
 
+-- elements with the same number are one
 pub same_tag : (t u : Tag) → (code t == code u) ≡ true → t ≡ u
 same_tag t u e = sym (back_from_code t) ∙ ap (λ n. coded_in n all_tags) (eqb-true (code t) (code u) e) ∙ back_from_code u
 
 -- ---- what is told
 
+-- an element that is a leaf tells a value of its form
 pub own_form : (p : Container) (i : Item) (t : Tag) (f : Form) (v : Val) → FitsItem p i → rule p t ≡ child.Leaf f → own t i ≡ Some v → HasForm f v
 own_form p (plain u w) t f v fits is e = by (code t == code u) refl e
   where
@@ -165,6 +167,7 @@ own_form p (plain u w) t f v fits is e = by (code t == code u) refl e
 own_form p (bare q) t f v fits is e = absurd cc
 own_form p (nested q is) t f v fits r e = absurd cc
 
+-- a leaf that elements tell has a value of its form
 pub told_form : (p : Container) (seen : List Tag) (is : Items) (t : Tag) (f : Form) (v : Val) → Fits p seen is → rule p t ≡ child.Leaf f → told t is ≡ Some v → HasForm f v
 told_form p seen no_items t f v fits r e = absurd cc
 told_form p seen (item i is) t f v fits r e = by (told t is) refl (λ w. told_form p (item_tag i ∷ seen) is t f w fits.2 r) e
@@ -173,6 +176,7 @@ told_form p seen (item i is) t f v fits r e = by (told t is) refl (λ w. told_fo
     by None h later o = own_form p i t f v fits.0 r o
     by (Some w) h later o = let same : w ≡ v = cc (o) in subst (HasForm f) same (later w h)
 
+-- where no required element is missing, each of them has stood
 pub missing_member : (t : Tag) (ts seen : List Tag) → first_missing ts seen ≡ None → member t ts ≡ true → member t seen ≡ true
 missing_member t [] seen e h = absurd cc
 missing_member t (u ∷ ts) seen e h = by (member u seen) refl (code t == code u) refl (missing_member t ts seen) e h
@@ -200,6 +204,7 @@ told_there p seen (item i is) t f fits r must new = by (told t is) refl (code t 
         let more = later (rw (same, new) refl) in
         absurd (let bad : None ≡ Some more.0 = sym h ∙ more.1 in cc)
 
+-- a required leaf is told, with a value of its form
 pub must_tell : (p : Container) (is : Items) (t : Tag) (f : Form) → Fits p [] is → rule p t ≡ child.Leaf f → member t (required p) ≡ true → (v : Val) × (told t is ≡ Some v) × HasForm f v
 must_tell p is t f fits r must =
     let h = told_there p [] is t f fits r must refl in

@@ -64,6 +64,7 @@ maybe_formed {X = X} R P p q is x formed ranged t = by (inside q is) refl x t
     by None e (Some y) h = absurd h
     by (Some js) e (Some y) h = formed js y (inside_ranged p is q js ranged e) h
 
+-- the facts that are told of a volume are in their ranges
 pub volume_formed : (is : Items) (v : VolumeFacts) → AreRanged place.Index is → TellsVolume is v → IsFormedVolume v
 volume_formed is v ranged t =
     let p = place.Index in
@@ -122,6 +123,7 @@ xattrs_formed (item (nested place.Xattr x) is) xs ranged t =
     subst (AllByRecursion IsXattr) (sym t.2) all
 xattrs_formed (item (nested _ x) is) xs ranged t = xattrs_formed is xs ranged.1 t
 
+-- the extended attributes that are told of a node are proper ones
 pub all_xattrs : (p : Container) (is : Items) (f : NodeFacts) → AreRanged p is → TellsFacts is f → AllByRecursion IsXattr f.xattrs
 all_xattrs p is f ranged t = by (inside place.Attributes is) refl t.xattrs
   where
@@ -143,6 +145,7 @@ AreFormed (directory f inside behind) = AreFacts f × AreFormed inside × AreFor
 AreFormed (file f bytes extents behind) = AreFacts f × AllByRecursion IsExtent extents × AreFormed behind
 AreFormed (link f text behind) = AreFacts f × IsUtf8 text × AreFormed behind
 
+-- the name that is told of the root may be a volume's
 pub root_named : (is : Items) (f : NodeFacts) → AreRanged place.Root is → TellsFacts is f → IsVolumeName f.name
 root_named is f ranged t = told_range place.Root is Name form.VolumeName (words f.name) ranged refl t.name
 
@@ -216,5 +219,6 @@ root_count (item i is) x e = by (inside place.Root is) refl (λ y. root_count is
     by None h later o = omega (arith, now i o)
     by (Some y) h later o = let same : y ≡ x = cc (o) in omega (arith, ap node_count same, later y h)
 
+-- the nodes that are told are no more than the node elements
 pub all_count : (is : Items) (x : Items) (nodes : Nodes) → inside place.Root is ≡ Some x → TellsContents x nodes → 1 + count nodes ≤ node_count is
 all_count is x nodes e t = omega (arith, root_count is x e, contents_count x nodes t)

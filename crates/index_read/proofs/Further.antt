@@ -33,12 +33,15 @@ Alike up (Err d) (Err e) = Unit {0}
 Alike up (Ok x) (Err e) = ⊥
 Alike up (Err d) (Ok y) = ⊥
 
+-- a reading that stays as it is
 abbrev pub just : {A : Type 0} → A → A
 just x = x
 
+-- a value that is read, and its place, one byte further on
 abbrev pub behind : {A : Type 0} → A × ℕ → A × ℕ
 behind x = (x.0, suc x.1)
 
+-- a start tag that ends one byte further on
 abbrev pub tag_behind : Start → Start
 tag_behind s = record { tag = s.tag; attribute = s.attribute; empty = s.empty; next = suc s.next }
 
@@ -66,6 +69,7 @@ name_behind (Some x) = Some (suc x.0, suc x.1)
 abbrev whole_tag : Tag → Attribute → ℕ → Read Start
 whole_tag tag a next = Ok (record { tag = tag; attribute = a; empty = true; next = next })
 
+-- a reading is like itself
 pub self_alike : {A E : Type 0} (r : Result A E) → Alike just r r
 self_alike (Ok x) = refl
 self_alike (Err e) = tt
@@ -161,6 +165,7 @@ run_alike ended at later run =
 -- ---- one place further on
 
 module _ (b : ℕ) (text : List ℕ) where
+  -- white space ends one byte further on
   pub space_further : (at : ℕ) → space_end (b ∷ text) (suc at) ≡ suc (space_end text at)
   unfolding space_end
   space_further at = run_further is_space at (drop at text)
@@ -289,6 +294,7 @@ module _ (b : ℕ) (text : List ℕ) where
 
   -- ---- values
 
+  -- a number is read alike one byte further on
   pub number_further : (at : ℕ) → Alike behind (number_at text at) (number_at (b ∷ text) (suc at))
   unfolding number_at
   number_further at = rw (digits_further 0 at (drop at text)) (number_of_further at (digits 0 at (drop at text)))
@@ -300,14 +306,17 @@ module _ (b : ℕ) (text : List ℕ) where
       by None = tt
       by (Some w) = ap (λ n. (w.0, n)) (so_many_more at w.1)
 
+  -- a truth value is read alike one byte further on
   pub bool_further : (at : ℕ) → Alike behind (bool_at text at) (bool_at (b ∷ text) (suc at))
   unfolding bool_at
   bool_further at = word_further ((codes "true", true) ∷ (codes "false", false) ∷ (codes "1", true) ∷ (codes "0", false) ∷ []) at
 
+  -- a lock is read alike one byte further on
   pub lock_further : (at : ℕ) → Alike behind (lock_at text at) (lock_at (b ∷ text) (suc at))
   unfolding lock_at
   lock_further at = word_further ((lock_word Unlocked, Unlocked) ∷ (lock_word Locked, Locked) ∷ (lock_word PermLocked, PermLocked) ∷ []) at
 
+  -- a letter is read alike one byte further on
   pub letter_further : (at : ℕ) → Alike behind (letter_at text at) (letter_at (b ∷ text) (suc at))
   unfolding letter_at
   letter_further at =
@@ -317,6 +326,7 @@ module _ (b : ℕ) (text : List ℕ) where
   shown_further : {A : Type 0} (size : ℕ) (read : List ℕ → Option A) (at : ℕ) → shown size read (b ∷ text) (suc at) ≡ shown size read text at
   shown_further size read at = rw (so_many_more at size, leb-suc-suc (at + size) (length text), between_further at (at + size)) refl
 
+  -- a time is read alike one byte further on
   pub time_further : (at : ℕ) → Alike behind (time_at text at) (time_at (b ∷ text) (suc at))
   unfolding time_at
   time_further at = rw (shown_further 30 civil_in at) (by (shown 30 civil_in text at))
@@ -325,6 +335,7 @@ module _ (b : ℕ) (text : List ℕ) where
       by None = tt
       by (Some c) = ap (λ n. (c, n)) (so_many_more at 30)
 
+  -- a UUID is read alike one byte further on
   pub uuid_further : (at : ℕ) → Alike behind (uuid_at text at) (uuid_at (b ∷ text) (suc at))
   unfolding uuid_at
   uuid_further at = rw (shown_further 36 uuid_in at) (by (shown 36 uuid_in text at))
@@ -337,6 +348,7 @@ module _ (b : ℕ) (text : List ℕ) where
   unfolding text_end
   text_end_further at = run_further (λ c. not (c == 60)) at (drop at text)
 
+  -- a text is read alike one byte further on
   pub text_further : (at : ℕ) → Alike behind (text_at text at) (text_at (b ∷ text) (suc at))
   unfolding text_at
   text_further at =

@@ -201,17 +201,21 @@ abbrev pub past : List ℕ → ℕ → ℕ
 past [] at = at
 past (b ∷ front) at = suc (past front at)
 
+-- a point of a text, behind a front that was put before it
 abbrev pub moved : List ℕ → Point → Point
 moved front end = record { at = past front end.at; parents = end.parents; nodes = end.nodes }
 
+-- a place behind a front is further on by the bytes of the front
 pub past_is : (front : List ℕ) (at : ℕ) → past front at ≡ length front + at
 past_is [] at = omega arith
 past_is (b ∷ front) at = ap suc (past_is front at) ∙ omega arith
 
+-- the end of a text behind a front is the end of both
 pub past_all : (front text : List ℕ) → past front (length text) ≡ length (front ++ text)
 past_all [] text = refl
 past_all (b ∷ front) text = ap suc (past_all front text)
 
+-- places that are one behind a front are one
 pub same_past : (front : List ℕ) (n m : ℕ) → past front n ≡ past front m → n ≡ m
 same_past [] n m e = e
 same_past (b ∷ front) n m e = same_past front n m (omega (arith, e))
@@ -258,6 +262,7 @@ pub reaches_past : (front text : List ℕ) (ps : List Piece) (at : ℕ) (fs : Li
 reaches_past [] text ps at fs nodes end r = r
 reaches_past (b ∷ front) text ps at fs nodes end r = reaches_further b (front ++ text) ps (past front at) fs nodes (moved front end) (reaches_past front text ps at fs nodes end r)
 
+-- pieces that are reached behind a front are those of the text without it
 pub reaches_back : (front text : List ℕ) (ps : List Piece) (at : ℕ) (fs : List Frame) (nodes : ℕ) (end : Point) → Reaches (front ++ text) ps (past front at) fs nodes end → (to : Point) × Reaches text ps at fs nodes to × (end ≡ moved front to)
 reaches_back [] text ps at fs nodes end r = (end, r, refl)
 reaches_back (b ∷ front) text ps at fs nodes end r =

@@ -149,9 +149,11 @@ standing (link f text behind) nodes parent at rest told below dir before =
 
 -- ---- all nodes
 
+-- the list of nodes of a value has the root and all that is in it
 pub listed_length : (nodes : List Node) (v : IndexValue) → map value_of nodes ≡ all_nodes v → length nodes ≡ 1 + count v.inside
 listed_length nodes v told = omega (arith, length-map nodes value_of, ap length told, length_listed 0 1 v.inside)
 
+-- the list of nodes of a value is in the order of the document
 pub listed_in_order : (nodes : List Node) (v : IndexValue) → map value_of nodes ≡ all_nodes v → AreInOrder nodes
 listed_in_order nodes v told =
     let others = listed 0 1 v.inside in

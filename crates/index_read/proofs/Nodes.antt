@@ -71,6 +71,7 @@ mutual
   only_contents (item (nested place.Contents x) is) nodes t = only_nodes x nodes t
   only_contents (item (nested _ x) is) nodes t = only_contents is nodes t
 
+-- a directory's elements tell one list of nodes in it
 pub one_contents : (is : Items) (a b : Nodes) → TellsContents is a → TellsContents is b → a ≡ b
 one_contents is a b x y = only_contents is a x ∙ sym (only_contents is b y)
 
@@ -101,6 +102,7 @@ rest_told seen (item (nested _ x) is) s front parent f behind fits there at = ab
 
 -- ---- directories and their contents
 
+-- the list of nodes is as long as there are nodes
 pub length_listed : (parent at : ℕ) (nodes : Nodes) → length (listed parent at nodes) ≡ count nodes
 length_listed parent at no_nodes = refl
 length_listed parent at (directory f inside behind) =
@@ -209,6 +211,7 @@ as_directory (item (plain t v) is) node s = as_directory is node (item_told plac
 as_directory (item (bare q) is) node s = as_directory is node (item_told place.Directory node (bare q) s)
 as_directory (item (nested q x) is) node s = as_directory is node (item_told place.Directory node (nested q x) s)
 
+-- the elements of the root tell its facts and all nodes in it, in order
 pub root_tells : (is : Items) (node : ℕ) (s : State) → Fits place.Root [] is → s.nodes ≡ []
     → (root : NodeFacts) × (inside : Nodes) × TellsFacts is root × TellsContents is inside × ((items_told place.Root 0 is (begun place.Root node s)).nodes ≡ value_in 0 root kinds.Dir ∷ listed 0 1 inside)
 root_tells is node s fits none =

@@ -141,6 +141,7 @@ run_read ended at run out e = by (utf8_valid_len run == length run) e
     by true h = resolved_read ended at run out h
     by false h = absurd (let a = read_ok (resolved_text false at (take (utf8_valid_len run) run)) _ out h in let bad = a.2 in cc)
 
+-- a text that is read is UTF-8 and bytes, and has only allowed characters
 pub text_read : (text : List ℕ) (at : ℕ) (v : List ℕ × ℕ) → text_at text at ≡ Ok v → IsRead v.0
 unfolding text_at
 text_read text at v e =
@@ -148,5 +149,6 @@ text_read text at v e =
     let same : (a.0, text_end text at) ≡ v = cc (a.2) in
     subst (λ (x : List ℕ × ℕ). IsRead x.0) same (run_read _ at _ a.0 a.1)
 
+-- the empty text is a plain one
 pub plain_nothing : IsPlainText []
 plain_nothing = plain_encoded [] refl

@@ -59,6 +59,7 @@ own_range p (plain u w) t f v ranged is e = by (code t == code u) refl e
 own_range p (bare q) t f v ranged is e = absurd cc
 own_range p (nested q is) t f v ranged r e = absurd cc
 
+-- a leaf that elements tell has a value in the range of its form
 pub told_range : (p : Container) (is : Items) (t : Tag) (f : Form) (v : Val) → AreRanged p is → rule p t ≡ child.Leaf f → told t is ≡ Some v → InRange f v
 told_range p no_items t f v ranged r e = absurd cc
 told_range p (item i is) t f v ranged r e = by (told t is) refl (λ w. told_range p is t f w ranged.1 r) e
@@ -90,6 +91,7 @@ inside_ranged p (item i is) q x ranged e = by (inside q is) refl (λ y. inside_r
 pattern_range : (v : Val) (f : Form) → rule place.Criteria Name ≡ child.Leaf f → InRange f v → InRange form.AnyName v
 pattern_range v f is h = let same : f ≡ form.AnyName = cc (is) in subst (λ (g : Form). InRange g v) same h
 
+-- the names of a placement policy that are told are UTF-8
 pub names_ranged : (is : Items) → AreRanged place.Criteria is → AllByRecursion IsUtf8 (names_in is)
 names_ranged no_items h = tt
 names_ranged (item (plain Name (words t)) is) h = (pattern_range (words t) h.0.0 h.0.1 h.0.2, names_ranged is h.1)

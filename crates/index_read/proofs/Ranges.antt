@@ -196,6 +196,7 @@ empty_range form.Key from at v n e = empty_name form.Key from at v n (λ h. cc h
 empty_range form.Value from at v n e = as_value (InRange form.Value) (bytes []) v _ n e (λ i. omega arith)
 empty_range _ from at v n e = absurd cc
 
+-- the value of a leaf that is read is in the range of its form
 pub leaf_range : (f : Form) (tag : Tag) (from : ℕ) (start : Start) (text : List ℕ) (v : Val) (n : ℕ) → leaf_at f tag from start text ≡ Ok (v, n) → InRange f v
 unfolding leaf_at
 leaf_range f tag from start text v n e = by start.empty e

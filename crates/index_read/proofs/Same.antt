@@ -72,5 +72,6 @@ one_index a b e f =
       nodes = nodes i;
     }
 
+-- indexes that tell the same volume and the same nodes are one
 pub tells_one : (a b : Index) (v w : IndexValue) → Tells a v → Tells b w → v.volume ≡ w.volume → all_nodes v ≡ all_nodes w → a ≡ b
 tells_one a b v w h k volume nodes = one_index a b (h.volume ∙ volume ∙ sym k.volume) (h.nodes ∙ nodes ∙ sym k.nodes)

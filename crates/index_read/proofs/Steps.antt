@@ -83,6 +83,7 @@ module _ (text : List ℕ) (inside at next : ℕ) (ps : List Piece) (o : Opened)
     (tells : Tell ps outermost blank (levels_of (o ∷ os)) s)
     (here : piece_at o.frame (length s.nodes) text at ≡ Ok (p, next))
     (told : t ≡ piece_told p (level_of o) s) where
+  -- one piece more is passed
   pub reaches_next : Reaches text (ps ++ p ∷ []) inside (fresh place.Index ∷ []) 0 (point next (frames_of (opened_after p o os s)) (length t.nodes))
   reaches_next =
       let counts : counted p (length s.nodes) ≡ length t.nodes = told_count p (level_of o) s ∙ ap (λ (x : State). length x.nodes) (sym told) in
@@ -90,12 +91,14 @@ module _ (text : List ℕ) (inside at next : ℕ) (ps : List Piece) (o : Opened)
       subst (Reaches text (ps ++ p ∷ []) inside (fresh place.Index ∷ []) 0) ends
       (reaches_more text ps inside (fresh place.Index ∷ []) 0 at o.frame (frames_of os) (length s.nodes) p next reaches here)
 
+  -- one piece more adds what it tells
   pub tells_next : Tell (ps ++ p ∷ []) outermost blank (levels_of (opened_after p o os s)) t
   tells_next =
       let levels = levels_after_is p o os s in
       subst (λ (x : State). Tell (ps ++ p ∷ []) outermost blank (levels_of (opened_after p o os s)) x) (sym told)
       (subst (λ (ls : List Level). Tell (ps ++ p ∷ []) outermost blank ls (piece_told p (level_of o) s)) levels (tell_more ps outermost blank (level_of o) (levels_of os) s p tells))
 
+-- one piece more leaves no more nodes than there may be
 pub few_next : (p : code_piece.Piece) (l : Level) (s t : State) → HasRoom p (length s.nodes) → length s.nodes ≤ most_nodes → t ≡ piece_told (piece_of p) l s → length t.nodes ≤ most_nodes
 few_next p l s t room few told =
     let e : counted (piece_of p) (length s.nodes) ≡ length t.nodes = told_count (piece_of p) l s ∙ ap (λ (x : State). length x.nodes) (sym told) in
@@ -110,6 +113,7 @@ pub is_kept : (text : List ℕ) (ps : List Piece) (inside next : ℕ) (os : List
 is_kept text ps inside next [] top outer done s r t k d le few = let same : true ≡ false = sym k ∙ d in absurd (cc)
 is_kept text ps inside next (o ∷ os) top outer done s r t k d le few = record { within = le; few = few; ps = ps; o = o; os = os; top_is = k.1; outer_is = k.2; reaches = r; tells = t }
 
+-- a reader that has closed all parents has walked the whole root element
 pub is_walked : (text : List ℕ) (ps : List Piece) (inside next : ℕ) (os : List Opened) (top : code_level.Level) (outer : List code_level.Level) (done : Bool) (s : State)
     → Reaches text ps inside (fresh place.Index ∷ []) 0 (point next (frames_of os) (length s.nodes)) → Tell ps outermost blank (levels_of os) s → Keeps os top outer done → done ≡ true → Walked text inside next s
 is_walked text ps inside next [] top outer done s r t k d = record { ps = ps; reaches = r; tells = t }
@@ -127,6 +131,7 @@ halted : (text : List ℕ) (inside at nodes : ℕ) (ps : List Piece) (o : Opened
     → Reaches text ps inside (fresh place.Index ∷ []) 0 (point at (frames_of (o ∷ os)) nodes) → piece_at o.frame nodes text at ≡ Err e → Halted place.Index text inside e
 halted text inside at nodes ps o os e r h = record { ps = ps; point = point at (frames_of (o ∷ os)) nodes; reaches = r; f = o.frame; fs = frames_of os; parents = refl; fails = h }
 
+-- a piece that is refused halts the document there, unless for want of memory
 pub halted_at : (text : List ℕ) (inside at n m : ℕ) (ps : List Piece) (o : Opened) (os : List Opened) (top : code_level.Level) (e : PieceErr) → top ≡ coded o → m ≡ n
     → Reaches text ps inside (fresh place.Index ∷ []) 0 (point at (frames_of (o ∷ os)) n) → Fails e (piece_at (record { place = top.frame.place; seen = o.frame.seen }) m text at) → UnlessMemory e (Halted place.Index text inside e)
 halted_at text inside at n m ps o os top e is count r h =

@@ -56,6 +56,7 @@ if_inside is p fits = go (inside p is) refl
     go None e = tt
     go (Some js) e = inside_fits place.Index [] is p js fits e
 
+-- the elements of an index tell of the volume what a reader takes from them
 pub volume_tells : (is : Items) → Fits place.Index [] is → TellsVolume is (volume_told is blank_volume)
 volume_tells is fits =
     let p = place.Index in
@@ -127,6 +128,7 @@ maybe_one R (Some is) None b one h k = absurd h
 maybe_one R (Some is) (Some x) None one h k = absurd k
 maybe_one R (Some is) (Some x) (Some y) one h k = ap (λ z. Some z) (one is x y h k)
 
+-- the elements of an index tell one set of facts of the volume
 pub one_volume : (is : Items) (a b : VolumeFacts) → TellsVolume is a → TellsVolume is b → a ≡ b
 one_volume is a b h k =
     let creator = some_words (told Creator is) a.creator b.creator h.creator k.creator in

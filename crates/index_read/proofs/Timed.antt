@@ -172,6 +172,7 @@ index_for s h =
       nodes.1,
     )
 
+-- what a whole document tells is an index's volume and nodes
 pub whole_told : (text : List ℕ) (s : State) → IsWhole text s → (index : Index) × (volume_of index ≡ s.volume) × (map value_of index.nodes ≡ s.nodes)
 whole_told text s w =
     let o = w.accepts.opened in

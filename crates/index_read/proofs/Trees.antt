@@ -5,6 +5,7 @@ use Rattle.doc_elements.specs.Pieces.{Piece, closes}
 use Rattle.doc_elements.specs.Elements.{Item, plain, bare, nested, Items, no_items, item, pieces_of, all_pieces}
 use Rattle.index_read.specs.Told.{State, Level, Tell, begun, ended, node_in, item_told, items_told, levels_after, piece_told}
 
+-- what pieces tell one behind the other is what all of them tell
 pub tell_append : (ps qs : List Piece) (ls : List Level) (s : State) (ms : List Level) (t : State) (ns : List Level) (u : State) → Tell ps ls s ms t → Tell qs ms t ns u → Tell (ps ++ qs) ls s ns u
 tell_append [] qs ls s ms t ns u h k = subst (λ (x : List Level). Tell qs x s ns u) (sym h.0) (subst (λ (x : State). Tell qs ms x ns u) (sym h.1) k)
 tell_append (p ∷ ps) qs [] s ms t ns u h k = h
@@ -33,5 +34,6 @@ tell_same [] ls s ms t ns u h k = sym h.1 ∙ k.1
 tell_same (p ∷ ps) [] s ms t ns u h k = absurd h
 tell_same (p ∷ ps) (l ∷ ls) s ms t ns u h k = tell_same ps (levels_after p l ls s) (piece_told p l s) ms t ns u h k
 
+-- the pieces of elements tell what the elements tell
 pub items_tell : (p : Container) (node : ℕ) (ls : List Level) (is : Items) (s : State) → Tell (all_pieces is ++ closes ∷ []) (level p node ∷ ls) s ls (ended p node (items_told p node is s))
 items_tell p node ls is s = all_tell p node ls is s

@@ -40,6 +40,7 @@ some_mapped : {X Y : Type 0} (f : X → Y) (o : Option X) (y : Y) → option_map
 some_mapped f None y e = absurd cc
 some_mapped f (Some x) y e = let same : f x ≡ y = cc (e) in (x, refl, same)
 
+-- a UUID that is read is a number below 2^128
 pub uuid_fits : (text : List ℕ) (n : ℕ) → uuid_in text ≡ Some n → n < 2 ^ 128
 uuid_fits text n e =
     let hex = digits_of text in

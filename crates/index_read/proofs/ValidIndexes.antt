@@ -80,6 +80,7 @@ nodes_formed (root ∷ others) v e name xattrs formed =
 
 -- ---- the whole index
 
+-- the index of a text is valid
 pub index_valid : (text : List ℕ) (index : Index) → IndexText text index → IsValid index
 index_valid text index h =
     let v = h.value in

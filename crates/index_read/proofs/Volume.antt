@@ -18,6 +18,7 @@ use Rattle.index_read.proofs.OfForms.{has_form, letter_step, number_step}
 
 -- ---- a place on tape
 
+-- a place on tape with what these elements tell of it
 abbrev pub spot_told : Items → Spot → Spot
 spot_told is s = record { letter = letter_or s.letter (told Partition is); block = number_or s.block (told StartBlock is) }
 
@@ -38,9 +39,11 @@ no_parent _ q e = cc
 not_parent : (p : Container) (q : Container) (tag : Tag) → IsSpotPlace p → rule p tag ≡ child.Parent q → ⊥
 not_parent p q tag is e = no_parent tag q (sym (ap (λ r. r tag) is) ∙ e)
 
+-- with this place as the index's own
 abbrev pub with_here : Spot → State → State
 with_here spot s = record s { volume = record s.volume { here = spot } }
 
+-- the elements of the index's own place change that place alone
 pub here_told : (seen : List Tag) (is : Items) (node : ℕ) (s : State) → Fits place.Here seen is → items_told place.Here node is s ≡ with_here (spot_told is s.volume.here) s
 here_told seen no_items node s fits = refl
 here_told seen (item (plain t v) more) node s fits =
@@ -51,6 +54,7 @@ here_told seen (item (nested q is) more) node s fits = absurd (not_parent place.
 abbrev pub with_back : Option Spot → State → State
 with_back spot s = record s { volume = record s.volume { back = spot } }
 
+-- the elements of the place of the index before change that place alone
 pub back_told : (seen : List Tag) (is : Items) (node : ℕ) (spot : Spot) (s : State) → Fits place.Back seen is → items_told place.Back node is (with_back (Some spot) s) ≡ with_back (Some (spot_told is spot)) s
 back_told seen no_items node spot s fits = refl
 back_told seen (item (plain t v) more) node spot s fits =
@@ -60,6 +64,7 @@ back_told seen (item (nested q is) more) node spot s fits = absurd (not_parent p
 
 -- ---- a policy
 
+-- a placement policy with what these elements tell of it
 abbrev pub policy_told : Items → Policy → Policy
 policy_told is p = record { size = number_or p.size (told Size is); names = p.names ++ names_in is }
 
@@ -84,9 +89,11 @@ policy_step seen tag v more p fits =
     let b : (p.names ++ name_told (own Name (plain tag v))) ++ names_in more ≡ p.names ++ names_in (item (plain tag v) more) = append_assoc p.names (name_told (own Name (plain tag v))) (names_in more) ∙ ap (λ l. p.names ++ l) (sym (names_step tag v more)) in
     λ k. record { size = a k; names = b k }
 
+-- with this placement policy
 abbrev pub with_policy : Option Policy → State → State
 with_policy policy s = record s { volume = record s.volume { policy = policy } }
 
+-- the elements of the criteria change the placement policy alone
 pub criteria_told : (seen : List Tag) (is : Items) (node : ℕ) (p : Policy) (s : State) → Fits place.Criteria seen is → items_told place.Criteria node is (with_policy (Some p) s) ≡ with_policy (Some (policy_told is p)) s
 criteria_told seen no_items node p s fits = ap (λ l. with_policy (Some (record { size = p.size; names = l })) s) (sym (append-nil p.names))
 criteria_told seen (item (plain t v) more) node p s fits =

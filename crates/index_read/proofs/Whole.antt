@@ -13,18 +13,22 @@ use Rattle.index_read.specs.Answers.{UnlessMemory}
 use Rattle.index_read.specs.Told.{State}
 use Rattle.index_read.specs.Walks.{IsRefused, IsWhole, Walked}
 
+-- what holds in any case holds unless memory was refused
 pub unless_always : (e : IndexErr) (P : Type 0) → P → UnlessMemory e P
 unless_always errors.NoMemory P p = tt
 unless_always _ P p = p
 
+-- what follows from a fact follows from it unless memory was refused
 pub unless_map : (e : IndexErr) (P Q : Type 0) → (P → Q) → UnlessMemory e P → UnlessMemory e Q
 unless_map errors.NoMemory P Q f p = tt
 unless_map _ P Q f p = f p
 
+-- what holds unless a piece wants memory holds unless the index does
 pub unless_told : (e : PieceErr) (P Q : Type 0) → (P → Q) → answers.UnlessMemory e P → UnlessMemory (refusal_told e) Q
 unless_told pieces.NoMemory P Q f p = tt
 unless_told _ P Q f p = f p
 
+-- behind the root only white space may stand: anything else stops the document
 pub walked_halts : (text : List ℕ) (inside at end : ℕ) (s : State) → head_of place.Index text ≡ Ok inside → Walked text inside at s → end ≡ space_end text at → (end ≡ length text → ⊥) → Halts place.Index text (pieces.Syntax end)
 walked_halts text inside at end s h x e ne =
     subst (λ (n : ℕ). Halts place.Index text (pieces.Syntax n)) (sym e)

@@ -97,18 +97,22 @@ mutual
 
 -- ---- the places and the policy of an index
 
+-- the index's own place as its element tells it, or as it was
 abbrev pub here_or : Spot → Option Items → Spot
 here_or old None = old
 here_or old (Some is) = spot_told is blank_spot
 
+-- the place of the index before as its element tells it, or as it was
 abbrev pub back_or : Option Spot → Option Items → Option Spot
 back_or old None = old
 back_or old (Some is) = Some (spot_told is blank_spot)
 
+-- the placement policy as the criteria tell it, or as it was
 abbrev pub criteria_or : Option Policy → Option Items → Option Policy
 criteria_or old None = old
 criteria_or old (Some is) = Some (policy_told is blank_policy)
 
+-- the placement policy as its element tells it, or as it was
 abbrev pub policy_or : Option Policy → Option Items → Option Policy
 policy_or old None = old
 policy_or old (Some is) = criteria_or old (inside place.Criteria is)
@@ -163,6 +167,7 @@ must_have p is q fits r must =
 
 -- ---- what the children of a policy tell
 
+-- the elements of the placement policy change that policy alone
 pub policy_is : (seen : List Tag) (is : Items) (node : ℕ) (s : State) → Fits place.Policy seen is → items_told place.Policy node is s ≡ with_policy (criteria_or s.volume.policy (inside place.Criteria is)) s
 policy_is seen no_items node s fits = refl
 policy_is seen (item (plain t v) more) node s fits = absurd (no_leaf t fits.0.0 fits.0.1)
@@ -260,6 +265,7 @@ item_volume (nested place.Policy is) node s fits = ap (λ x. x.volume) (policy_i
 item_volume (nested place.Root is) node s fits = items_within place.Root [] _ is (begun place.Root node s) fits.1 refl
 item_volume (nested _ is) node s fits = absurd (let bad = fits.0 in cc)
 
+-- the elements of an index change the facts of the volume that they tell of
 pub volume_is : (seen : List Tag) (is : Items) (node : ℕ) (s : State) → Fits place.Index seen is → (items_told place.Index node is s).volume ≡ volume_told is s.volume
 volume_is seen no_items node s fits = refl
 volume_is seen (item i more) node s fits =

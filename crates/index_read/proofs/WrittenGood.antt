@@ -61,12 +61,14 @@ pub record GoodFacts (f : NodeFacts) : Type 0 where
   pub times : AreMoments f.times
   pub xattrs : AllByRecursion IsXattr f.xattrs
 
+-- the nodes can be written and read again
 abbrev pub GoodNodes : Nodes → Type 0
 GoodNodes no_nodes = ⊤
 GoodNodes (directory f inside behind) = GoodFacts f × IsNodeName f.name × GoodNodes inside × GoodNodes behind
 GoodNodes (file f bytes extents behind) = GoodFacts f × IsNodeName f.name × (bytes < 2 ^ 64) × AllByRecursion IsExtent extents × GoodNodes behind
 GoodNodes (link f text behind) = GoodFacts f × IsNodeName f.name × IsUtf8 text × (length text < 2 ^ 64) × GoodNodes behind
 
+-- the facts of a volume can be written and read again
 pub record GoodVolume (v : VolumeFacts) : Type 0 where
   pub creator : IsPlainText v.creator
   pub comment : IfSome v.comment IsPlainText
@@ -79,6 +81,7 @@ pub record GoodVolume (v : VolumeFacts) : Type 0 where
   pub policy : IfSome v.policy IsPolicy
   pub highest : v.highest < 2 ^ 64
 
+-- the volume, the root and the nodes can be written and read again
 pub record GoodIndex (v : IndexValue) : Type 0 where
   pub volume : GoodVolume v.volume
   pub root : GoodFacts v.root
@@ -334,9 +337,11 @@ volume_stands v root = go v.comment v.back v.policy v.lock
     go (Some c) (Some b) (Some p) None = refl
     go (Some c) (Some b) (Some p) (Some l) = refl
 
+-- the elements that are written of an index may stand where they stand
 pub all_stand : (v : IndexValue) → stand place.Index [] (items_of v) ≡ true
 all_stand v = volume_stands v.volume (directory_items v.root (nodes_items v.inside))
 
+-- the elements that are written of a valid index are read where they stand
 pub all_good : (v : IndexValue) → GoodIndex v → GoodItems place.Index (items_of v)
 all_good v h =
     let root = directory_items v.root (nodes_items v.inside) in

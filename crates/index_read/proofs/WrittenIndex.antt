@@ -141,6 +141,7 @@ spelled_by text v is good few =
       few = all_count v few;
     }
 
+-- the document of a valid index with short links is that index's text
 pub document_back : (index : Index) (v : IndexValue) → IsValid index → Tells index v → AreLinksShort index.nodes → IndexText (canonical v) index
 document_back index v valid tells short =
     let count = valid.formed.count in

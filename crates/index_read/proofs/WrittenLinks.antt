@@ -119,5 +119,6 @@ links_short index v tells fits =
     let all : AllByRecursion IsShort (all_nodes v) = (tt, short_nodes 0 1 v.inside (omega arith)) in
     all_unmapped IsShort value_of index.nodes (subst (AllByRecursion IsShort) (sym tells.nodes) all)
 
+-- a document that can be in memory is the text of the valid index it was written of
 pub document_read : (index : Index) (v : IndexValue) → IsValid index → Tells index v → length (canonical v) < 2 ^ 64 → IndexText (canonical v) index
 document_read index v valid tells fits = document_back index v valid tells (links_short index v tells fits)

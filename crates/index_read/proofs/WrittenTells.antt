@@ -76,9 +76,11 @@ module _ (v : VolumeFacts) (root : Items) where
   told_with (Some c) (Some b) (Some p) None = (refl, refl, refl, refl, refl, spot_tells v.here, spot_tells b, refl, policy_tells p, refl, refl, refl)
   told_with (Some c) (Some b) (Some p) (Some l) = (refl, refl, refl, refl, refl, spot_tells v.here, spot_tells b, refl, policy_tells p, refl, refl, refl)
 
+  -- the elements written of a volume tell that volume
   pub volume_tells : TellsVolume (index_items v root) v
   volume_tells = let t = told_with v.comment v.back v.policy v.lock in record { creator = t.0; comment = t.1; uuid = t.2; generation = t.3; updated = t.4; here = t.5; back = t.6; allow = t.7; policy = t.8; lock = t.9; highest = t.10 }
 
+  -- the root's elements are found among those that are written of an index
   pub root_told : inside place.Root (index_items v root) ≡ Some root
   root_told = (told_with v.comment v.back v.policy v.lock).11
 
@@ -88,6 +90,7 @@ xattrs_tell : (xs : List Xattr) → TellsXattrs (xattrs_items xs) xs
 xattrs_tell [] = refl
 xattrs_tell (x ∷ xs) = (x, xs, refl, record { key = refl; value = refl }, xattrs_tell xs)
 
+-- the elements written of a directory tell its facts
 pub directory_tells : (f : NodeFacts) (inner : Items) → TellsFacts (directory_items f inner) f
 directory_tells f inner = go f.xattrs
   where
@@ -153,6 +156,7 @@ nodes_tell (directory f inner behind) = (f, inner, behind, refl, directory_tells
 nodes_tell (file f bytes extents behind) = (behind, inl (file_tells f bytes extents behind), nodes_tell behind)
 nodes_tell (link f text behind) = (behind, inr (link_tells f (length text) text behind), nodes_tell behind)
 
+-- the elements written of a directory's contents tell those nodes
 pub contents_tell : (f : NodeFacts) (nodes : Nodes) → TellsContents (directory_items f (nodes_items nodes)) nodes
 contents_tell f nodes = inner_tells f (nodes_items nodes) nodes (nodes_tell nodes)
 
@@ -225,6 +229,7 @@ volume_count v root =
     let comment = maybe_count comment_item v.comment (item (plain VolumeUuid (uuid v.uuid)) (item (plain GenerationNumber (number v.generation)) (item (plain UpdateTime (time v.updated)) (item (nested place.Here (spot_items v.here)) b)))) (λ t. refl) in
     omega arith
 
+-- with few enough nodes, the written elements have few enough node elements
 pub all_count : (v : IndexValue) → length (all_nodes v) ≤ most_nodes → node_count (items_of v) ≤ most_nodes
 all_count v few =
     let volume = volume_count v.volume (directory_items v.root (nodes_items v.inside)) in

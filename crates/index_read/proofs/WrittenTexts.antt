@@ -146,6 +146,7 @@ inner_text v =
 four : (a b c d : List ℕ) → a ++ b ++ c ++ d ≡ a ++ (b ++ (c ++ d))
 four a b c d = simp append_assoc
 
+-- the text of an index is a declaration, a start tag, the text of its elements and an end tag
 pub canonical_is : (v : IndexValue) → canonical v ≡ head ++ (start_text LtfsIndex Version ++ (texts_of (items_of v) ++ end_text LtfsIndex))
 unfolding canonical
 canonical_is v = ap (λ (x : List ℕ). head ++ start_text LtfsIndex Version ++ x ++ end_text LtfsIndex) (inner_text v) ∙ four head (start_text LtfsIndex Version) (texts_of (items_of v)) (end_text LtfsIndex)

@@ -58,6 +58,7 @@ only_xattr is x t = rw (t.key, t.value) refl
 
 -- ---- those of a node
 
+-- the extended attributes that elements are
 abbrev pub xattrs_in : Items → List Xattr
 xattrs_in no_items = []
 xattrs_in (item (nested place.Xattr is) more) = xattr_in is ∷ xattrs_in more
@@ -67,6 +68,7 @@ xattrs_in (item _ more) = xattrs_in more
 abbrev pub with_xattrs : List Xattr → NodeFacts → NodeFacts
 with_xattrs xs f = record f { xattrs = f.xattrs ++ xs }
 
+-- the elements of a node's attributes put them behind those it has
 pub attributes_told : (seen : List Tag) (is : Items) (s : State) (front : List NodeValue) (parent : ℕ) (f : NodeFacts) (k : NodeKind) (behind : List NodeValue) → Fits place.Attributes seen is → s.nodes ≡ nodes_with front parent f behind k
     → (items_told place.Attributes (length front) is s).nodes ≡ nodes_with front parent (with_xattrs (xattrs_in is) f) behind k
 attributes_told seen no_items s front parent f k behind fits at = at ∙ ap (λ (xs : List Xattr). nodes_with front parent (record f { xattrs = xs }) behind k) (sym (append-nil f.xattrs))
@@ -108,10 +110,12 @@ abbrev pub xattrs_or : List Xattr → Option Items → List Xattr
 xattrs_or old None = old
 xattrs_or old (Some is) = old ++ xattrs_in is
 
+-- the attributes of elements are those that a node with these elements has
 pub has_xattrs : (o : Option Items) → ((is : Items) → o ≡ Some is → Fits place.Attributes [] is) → HasXattrs o (xattrs_or [] o)
 has_xattrs None fits = refl
 has_xattrs (Some is) fits = xattrs_tell [] is (fits is refl)
 
+-- a node's elements tell one list of attributes
 pub no_other_xattrs : (o : Option Items) (xs : List Xattr) → HasXattrs o xs → xs ≡ xattrs_or [] o
 no_other_xattrs None xs h = h
 no_other_xattrs (Some is) xs h = only_xattrs is xs h

@@ -14,6 +14,7 @@ use Rattle.index_tool.specs.declared.outcomes.Outcome.TheVariants as outcomes
 use Rattle.index_tool.specs.Tool.{IsCommand, word_of}
 use Rattle.index_tool.specs.Outcomes.{ok_text, status_of, text_of, IsAnswer, IsCanon, IsCaused, IsChecked, IsJudged, IsOutcomeOf, IsRefusal, IsTold}
 
+-- an answer that the text of an index gets is what a run promises of it
 pub judged_answer : (command : Command) (text : List ℕ) (index : Index) (o : Outcome) → IndexText text index → IsAnswer command index o → IsJudged command text o
 judged_answer command text index (outcomes.Sound generation nodes) is a = (a.0, record { index = index; is = is; generation_is = a.1; nodes_are = a.2 })
 judged_answer command text index (outcomes.Written canon) is a = (a.0, record { index = index; is = is; same = a.1 is.value is.tells })
@@ -26,6 +27,7 @@ stops_or : (e : IndexErr) (P : Type 0) → (e ≡ errors.NoMemory → ⊥) → U
 stops_or errors.NoMemory P never h = absurd (never refl)
 stops_or _ P never h = h
 
+-- a refusal that a text gets is what a run promises of it
 pub judged_refusal : (command : Command) (text : List ℕ) (e : IndexErr) (o : Outcome) → UnlessMemory e (Stops text e) → IsRefusal e o → IsJudged command text o
 judged_refusal command text e (outcomes.Sound generation nodes) s r = absurd r
 judged_refusal command text e (outcomes.Written canon) s r = absurd r
@@ -46,6 +48,7 @@ if_same : (left : Option (List ℕ)) (text : List ℕ) (P : List ℕ → Type 0)
 if_same None text P h p = tt
 if_same (Some bytes) text P h p = subst P (sym h) p
 
+-- what a command makes of a text that was read to its end is the outcome of that command
 pub outcome_is : (command : Command) (left end : Option (List ℕ)) (before now : ℕ) (text : List ℕ) (o : Outcome) → Consumes left end text → IsAtEnd end → IsJudged command text o → IsOutcomeOf command left end before now o
 outcome_is command left end before now text (outcomes.Sound generation nodes) c e j = (j.0, if_same left text _ (whole left end text c e) j.1, e)
 outcome_is command left end before now text (outcomes.Written canon) c e j = (j.0, if_same left text _ (whole left end text c e) j.1, e)
@@ -74,6 +77,7 @@ module _ (words : List (String Global)) (left end old new : Option (List ℕ)) (
   not_zero o s of never (inl done) is = never (sym of ∙ sym done.0 ∙ is)
   not_zero o s of never (inr failed) is = let bad : 6 ≡ 0 = sym failed.0 ∙ is in cc
 
+  -- a check that ends with status 0 has told the text's generation and count of nodes
   pub checked : (o : Outcome) → IsCaused words left end before now o → IsTold o old new failed_before failed_now status → status ≡ 0 → IsCommand words commands.Check → IfSome left (λ text. IsChecked text old new)
   checked (outcomes.Sound generation nodes) (inl never) told is check = absurd (let bad = never.0 in cc)
   checked (outcomes.Sound generation nodes) (inr known) told is check =
@@ -87,6 +91,7 @@ module _ (words : List (String Global)) (left end old new : Option (List ℕ)) (
   checked (outcomes.Source counts) c told is check = absurd (not_zero (outcomes.Source counts) 5 refl (λ bad. cc) told is)
   checked outcomes.NoMemory c told is check = absurd (not_zero outcomes.NoMemory 7 refl (λ bad. cc) told is)
 
+  -- a rewriting that ends with status 0 has printed the one text of the index
   pub canon : (o : Outcome) → IsCaused words left end before now o → IsTold o old new failed_before failed_now status → status ≡ 0 → IsCommand words commands.Canon → IfSome left (λ text. IsCanon text old new)
   canon (outcomes.Sound generation nodes) (inl never) told is command = absurd (let bad = never.0 in cc)
   canon (outcomes.Sound generation nodes) (inr known) told is command =

@@ -16,42 +16,52 @@ use Rattle.tape_types.specs.declared.texts.NoMemory.{NoMemory}
 abbrev Done : Type 0
 Done = Result (Unit {0}) NoMemory
 
+-- what follows from a success follows where there is one
 pub ok : (r : Done) {P Q : Type 0} → (P → Q) → OnOk r P → OnOk r Q
 ok (Ok _) f p = f p
 ok (Err _) f p = p
 
+-- what follows from a failure follows where there is one
 pub err : (r : Done) {P Q : Type 0} → (P → Q) → OnErr r P → OnErr r Q
 err (Ok _) f p = p
 err (Err _) f p = f p
 
+-- a fact that holds in any case holds after a failure too
 pub told : {T : Type 0} (r : Result T NoMemory) {P : Type 0} → P → OnErr r P
 told (Ok _) p = tt
 told (Err _) p = p
 
+-- what kept a text and then kept the result has kept the text
 pub join : (a b c : List ℕ) → Keeps a b → Keeps b c → Keeps a c
 join a b c k l = (k.0 ++ l.0, l.1 ∙ ap (λ (x : List ℕ). x ++ l.0) k.1 ∙ append_assoc a k.0 l.0)
 
 pub ok2 : (r : Done) (t o a b o1 n : List ℕ) → o1 ≡ o ++ a → a ++ b ≡ t → OnOk r (n ≡ o1 ++ b) → OnOk r (n ≡ o ++ t)
 ok2 r t o a b o1 n e1 is = ok r (λ e. e ∙ ap (λ (x : List ℕ). x ++ b) e1 ∙ append_assoc o a b ∙ ap (λ (x : List ℕ). o ++ x) is)
 
+-- three texts appended one behind the other make their whole, if the last succeeds
 pub ok3 : (r : Done) (t o a b c o1 o2 n : List ℕ) → o1 ≡ o ++ a → o2 ≡ o1 ++ b → a ++ b ++ c ≡ t → OnOk r (n ≡ o2 ++ c) → OnOk r (n ≡ o ++ t)
 ok3 r t o a b c o1 o2 n e1 e2 is = ok2 r t o (a ++ b) c o2 n (rw (e2, e1) (append_assoc o a b)) is
 
+-- four texts appended one behind the other make their whole, if the last succeeds
 pub ok4 : (r : Done) (t o a b c d o1 o2 o3 n : List ℕ) → o1 ≡ o ++ a → o2 ≡ o1 ++ b → o3 ≡ o2 ++ c → a ++ b ++ c ++ d ≡ t → OnOk r (n ≡ o3 ++ d) → OnOk r (n ≡ o ++ t)
 ok4 r t o a b c d o1 o2 o3 n e1 e2 e3 is = ok3 r t o (a ++ b) c d o2 o3 n (rw (e2, e1) (append_assoc o a b)) e3 is
 
+-- five texts appended one behind the other make their whole, if the last succeeds
 pub ok5 : (r : Done) (t o a b c d e o1 o2 o3 o4 n : List ℕ) → o1 ≡ o ++ a → o2 ≡ o1 ++ b → o3 ≡ o2 ++ c → o4 ≡ o3 ++ d → a ++ b ++ c ++ d ++ e ≡ t → OnOk r (n ≡ o4 ++ e) → OnOk r (n ≡ o ++ t)
 ok5 r t o a b c d e o1 o2 o3 o4 n e1 e2 e3 e4 is = ok4 r t o (a ++ b) c d e o2 o3 o4 n (rw (e2, e1) (append_assoc o a b)) e3 e4 is
 
 pub err2 : (r : Done) (o a o1 n : List ℕ) → o1 ≡ o ++ a → OnErr r (Keeps o1 n) → OnErr r (Keeps o n)
 err2 r o a o1 n e1 = err r (λ k. (a ++ k.0, rw (k.1, e1) (append_assoc o a k.0)))
 
+-- where the last of three texts fails, what stood before is kept
 pub err3 : (r : Done) (o a b o1 o2 n : List ℕ) → o1 ≡ o ++ a → o2 ≡ o1 ++ b → OnErr r (Keeps o2 n) → OnErr r (Keeps o n)
 err3 r o a b o1 o2 n e1 e2 h = err2 r o a o1 n e1 (err2 r o1 b o2 n e2 h)
 
+-- where the last of four texts fails, what stood before is kept
 pub err4 : (r : Done) (o a b c o1 o2 o3 n : List ℕ) → o1 ≡ o ++ a → o2 ≡ o1 ++ b → o3 ≡ o2 ++ c → OnErr r (Keeps o3 n) → OnErr r (Keeps o n)
 err4 r o a b c o1 o2 o3 n e1 e2 e3 h = err2 r o a o1 n e1 (err3 r o1 b c o2 o3 n e2 e3 h)
 
+-- where the last of five texts fails, what stood before is kept
 pub err5 : (r : Done) (o a b c d o1 o2 o3 o4 n : List ℕ) → o1 ≡ o ++ a → o2 ≡ o1 ++ b → o3 ≡ o2 ++ c → o4 ≡ o3 ++ d → OnErr r (Keeps o4 n) → OnErr r (Keeps o n)
 err5 r o a b c d o1 o2 o3 o4 n e1 e2 e3 e4 h = err2 r o a o1 n e1 (err4 r o1 b c d o2 o3 o4 n e2 e3 e4 h)
 
@@ -93,6 +103,7 @@ volume_joined a b c d e f g h i j k = simp (append_assoc)
 pub four : (o a b c d o1 o2 o3 n : List ℕ) → o1 ≡ o ++ a → o2 ≡ o1 ++ b → o3 ≡ o2 ++ c → n ≡ o3 ++ d → n ≡ o ++ (a ++ (b ++ c) ++ d)
 four o a b c d o1 o2 o3 n e1 e2 e3 e4 = rw (e4, e3, e2, e1) (simp (append_assoc))
 
+-- the parts of a volume's text, one behind the other, are that text
 pub state_laws : (v : VolumeFacts) → volume_front v ++ spot Location v.here ++ if_told v.back (spot PreviousGenerationLocation) ++ volume_rear v ≡ volume_text v
 unfolding volume_front volume_rear
 state_laws v = volume_joined (words Creator v.creator) (if_told v.comment (words Comment)) (element VolumeUuid (uuid_text v.uuid)) (number GenerationNumber v.generation) (time UpdateTime v.updated)

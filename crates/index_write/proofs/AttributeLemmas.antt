@@ -17,6 +17,7 @@ use Rattle.index_write.specs.Parts.{value_text}
 use Rattle.index_write.specs.Sizes.{bounded, size}
 use Rattle.index_write.proofs.SizeLemmas.{el}
 
+-- where there are attributes, they stand in one element
 pub some_attributes : (xs : List Xattr) → false ≡ nat_eq (length xs) 0 → attributes xs ≡ element ExtendedAttributes (flat_map xattr xs)
 some_attributes [] some = absurd cc
 some_attributes (x ∷ xs) some = refl
@@ -46,6 +47,7 @@ of_some n count r fits long is = elim (cases_lt n (2 ^ 64)) [
   | inr ge ↦ let told = sym is ∙ long ge in absurd (cc told)
 ]
 
+-- the count of symbols in base64 is the length of the text, as far as 64 bits go
 pub symbols_counted : (m : List ℕ) (count : ℕ) (r : Option ℕ) → (encoded_size (length m) true < 2 ^ 64 → r ≡ Some (encoded_size (length m) true)) → (2 ^ 64 ≤ encoded_size (length m) true → r ≡ None)
     → r ≡ Some count → count ≡ size (encode_of standard m)
 symbols_counted m count r fits long is = of_some (encoded_size (length m) true) count r fits long is ∙ ap bounded (sym (symbols_length m))
@@ -62,6 +64,7 @@ xattr_count x =
     let one = joined (name Key x.key) (start_text Value (bytes_type x.value)) (bytes_text x.value) (end_text Value) in
     ap (λ (t : List ℕ). length (element tags.Xattr t)) one ∙ el tags.Xattr (name Key x.key ++ value_text x.value) _ 15 refl (length-append (name Key x.key) (value_text x.value))
 
+-- the length of an attribute's text is the sum of its parts
 pub xattr_total : (x : Xattr) (k v all : ℕ) → k ≡ size (name Key x.key) → v ≡ size (value_text x.value) → all ≡ bounded (15 + k + v) → all ≡ size (xattr x)
 xattr_total x k v all is_k is_v is = of_xattr (length (xattr x)) (length (name Key x.key)) (length (value_text x.value)) k v all (xattr_count x) is_k is_v is
 
@@ -69,6 +72,7 @@ xattr_total x k v all is_k is_v is = of_xattr (length (xattr x)) (length (name K
 of_attributes : (l n k all : ℕ) → l ≡ n + 41 → k ≡ bounded n → all ≡ min (k + 41) (2 ^ 64 - 1) → all ≡ bounded l
 of_attributes l n k all e is_k is = omega (arith, e, is_k, is)
 
+-- the length of all attributes' text is the sum of theirs and of the tags
 pub attributes_total : (xs : List Xattr) (k all : ℕ) → false ≡ nat_eq (length xs) 0 → k ≡ size (flat_map xattr xs) → all ≡ min (k + 41) (2 ^ 64 - 1) → all ≡ size (attributes xs)
 attributes_total xs k all some is_k is =
     of_attributes (length (element ExtendedAttributes (flat_map xattr xs))) (length (flat_map xattr xs)) k all (el ExtendedAttributes (flat_map xattr xs) _ 41 refl refl) is_k is

@@ -107,6 +107,7 @@ facts_count f =
 two : (l u n s t x y all : ℕ) → l ≡ 319 + u + n + t + x → s ≡ bounded n → y ≡ bounded x → all ≡ bounded (319 + u + s + t + y) → all ≡ bounded l
 two l u n s t x y all a b c d = omega (arith, a, b, c, d)
 
+-- the length of a node's facts is the sum of its parts
 pub facts_total : (f : NodeFacts) (d n t y all : ℕ) → d ≡ length (decimal f.uid) → n ≡ size (name Name f.name) → t ≡ length (bool_text f.readonly) → y ≡ size (attributes f.xattrs) → all ≡ bounded (319 + d + n + t + y) → all ≡ bounded (facts_length f)
 facts_total f d n t y all is_d is_n is_t is_y is = two (facts_length f) d (length (name Name f.name)) n t (length (attributes f.xattrs)) y all (rw (is_d, is_t) (facts_count f)) is_n is_y is
 
@@ -126,6 +127,7 @@ directory_count f = inside_count f [] ∙ more (facts_length f)
     more : (n : ℕ) → n + (0 + 21) + 23 ≡ n + 44
     more n = omega arith
 
+-- the length of a directory's text is that of its facts and its tags
 pub directory_total : (f : NodeFacts) (n all : ℕ) → n ≡ bounded (facts_length f) → all ≡ min (n + 44) (2 ^ 64 - 1) → all ≡ bounded (directory_length f)
 directory_total f n all is_n is = of_directory (directory_length f) (facts_length f) n all (directory_count f) is_n is
 
@@ -147,6 +149,7 @@ front_count f bytes =
 of_file : (l f d x n e all : ℕ) → l ≡ f + d + 17 + (x + 25) + 13 → n ≡ bounded f → e ≡ bounded x → all ≡ bounded (55 + n + d + e) → all ≡ bounded l
 of_file l f d x n e all a b c g = omega (arith, a, b, c, g)
 
+-- the length of a file's text is the sum of its parts
 pub file_total : (f : NodeFacts) (bytes : ℕ) (extents : List RawExtent) (n d e all : ℕ) → n ≡ bounded (facts_length f) → d ≡ length (decimal bytes) → e ≡ size (flat_map extent extents) → all ≡ bounded (55 + n + d + e) → all ≡ size (file_text f bytes extents)
 file_total f bytes extents n d e all is_n is_d is_e is =
     let rest = element ExtentInfo (flat_map extent extents) in
@@ -156,6 +159,7 @@ file_total f bytes extents n d e all is_n is_d is_e is =
 of_link : (l f d x n e all : ℕ) → l ≡ f + d + 17 + x + 13 → n ≡ bounded f → e ≡ bounded x → all ≡ bounded (30 + n + d + e) → all ≡ bounded l
 of_link l f d x n e all a b c g = omega (arith, a, b, c, g)
 
+-- the length of a link's text is the sum of its parts
 pub link_total : (f : NodeFacts) (text : List ℕ) (n d e all : ℕ) → n ≡ bounded (facts_length f) → d ≡ length (decimal (length text)) → e ≡ size (name Symlink text) → all ≡ bounded (30 + n + d + e) → all ≡ size (link_text f text)
 link_total f text n d e all is_n is_d is_e is =
     let count = el File (file_front f (length text) ++ name Symlink text) _ 13 refl (cat (file_front f (length text)) (name Symlink text) _ _ (front_count f (length text)) refl) in
@@ -170,6 +174,7 @@ uuid_length : (n : ℕ) → length (uuid_text n) ≡ 36
 unfolding by_index
 uuid_length n = refl
 
+-- the length of the first part of the volume's text is the sum of its parts
 pub front_total : (v : VolumeFacts) (x y d all : ℕ) → x ≡ size (escape v.creator) → y ≡ size (if_told v.comment (words Comment)) → d ≡ length (decimal v.generation) → all ≡ bounded (106 + x + y + 36 + d + 30) → all ≡ size (volume_front v)
 unfolding volume_front
 front_total v x y d all is_x is_y is_d is =
@@ -185,6 +190,7 @@ front_total v x y d all is_x is_y is_d is =
 of_rear : (l t p k d x y all : ℕ) → l ≡ t + 39 + p + k + (d + 33) → x ≡ bounded p → y ≡ bounded k → all ≡ bounded (72 + t + x + y + d) → all ≡ bounded l
 of_rear l t p k d x y all a b c g = omega (arith, a, b, c, g)
 
+-- the length of the last part of the volume's text is the sum of its parts
 pub rear_total : (v : VolumeFacts) (t x y d all : ℕ) → t ≡ length (bool_text v.allow) → x ≡ size (if_told v.policy policy) → y ≡ size (if_told v.lock (λ state. element VolumeLockState (lock_word state))) → d ≡ length (decimal v.highest) → all ≡ bounded (72 + t + x + y + d) → all ≡ size (volume_rear v)
 unfolding volume_rear
 rear_total v t x y d all is_t is_x is_y is_d is =
@@ -198,6 +204,7 @@ rear_total v t x y d all is_t is_x is_y is_d is =
 of_volume : (l f h b r w x y z all : ℕ) → l ≡ f + (h + 21) + b + r → w ≡ bounded f → x ≡ bounded h → y ≡ bounded b → z ≡ bounded r → all ≡ bounded (21 + w + x + y + z) → all ≡ bounded l
 of_volume l f h b r w x y z all e a c d g is = omega (arith, e, a, c, d, g, is)
 
+-- the length of the volume's text is the sum of its parts
 pub volume_total : (v : VolumeFacts) (w x y z all : ℕ) → w ≡ size (volume_front v) → x ≡ size (spot_text v.here) → y ≡ size (if_told v.back (spot PreviousGenerationLocation)) → z ≡ size (volume_rear v) → all ≡ bounded (21 + w + x + y + z) → all ≡ size (volume_text v)
 volume_total v w x y z all is_w is_x is_y is_z is =
     let a = volume_front v in
@@ -249,6 +256,7 @@ tree_count v = total_cons (value_in 0 v.root kinds.Dir) (listed 0 1 v.inside) �
 of_document : (l f t x y all : ℕ) → l ≡ 65 + (f + t) + 12 → x ≡ bounded f → y ≡ bounded t → all ≡ bounded (77 + x + y) → all ≡ bounded l
 of_document l f t x y all e a b is = omega (arith, e, a, b, is)
 
+-- the length of a document is that of the volume's text and of all nodes' texts
 pub document_total : (v : IndexValue) (x y all : ℕ) → x ≡ size (volume_text v.volume) → y ≡ bounded (nodes_total (all_nodes v)) → all ≡ bounded (77 + x + y) → all ≡ bounded (length (canonical v))
 unfolding canonical
 document_total v x y all is_x is_y is =

@@ -18,5 +18,6 @@ piece_first e all piece rest parts size =
       | inr long ↦ let whole : length piece % 3 ≡ 0 = omega arith in sym (encode_of-append e piece rest whole) ∙ ap (encode_of e) (sym parts)
     ]
 
+-- where no bytes are left to encode, all is written
 pub none_left : (e : GeneralPurpose) (out rest all : List ℕ) → length rest ≡ 0 → out ++ encode_of e rest ≡ all → out ≡ all
 none_left e out rest all none is = rw (nil_from_length rest none, encode_of-nil, append-nil) at is

@@ -67,6 +67,7 @@ ends_inside nodes at o x xs no_nodes (b ∷ behind) first apart depth before wit
       text_is = refl;
     }
 
+-- where the next node is not of the innermost open directory, that directory ends
 pub ends : (nodes : List Node) (at : ℕ) (o : Open) (text : List ℕ) (d : Node) → at < length nodes → parent_at nodes at ≢ o.dir → Rests nodes at o text → Ends nodes at o text
 ends nodes at o text d lt apart r =
     let f = front nodes at d lt in
@@ -220,6 +221,7 @@ ends_more nodes at o old out new text d lt apart put g =
     let e = ends nodes at o g.rest d lt apart g.rests in
     record { rest = e.rest; rests = e.rests; so_far = g.so_far ∙ ap (λ (t : List ℕ). out ++ t) e.text_is ∙ sym (append_assoc out closing e.rest) ∙ ap (λ (t : List ℕ). t ++ e.rest) (sym put) }
 
+-- a node of the innermost open directory is written, and opened if it is a directory
 pub writes_more : (nodes : List Node) (at : ℕ) (o : Open) (old out new text : List ℕ) (node : Node) → at < length nodes → node ≡ get_or nodes at node → parent_at nodes at ≡ o.dir → new ≡ out ++ node_text (value_of node) → Goes nodes at o old out text
     → Goes nodes (at + 1) (opened node.kind at o) old new text
 writes_more nodes at o old out new text node lt it up put g =
@@ -227,6 +229,7 @@ writes_more nodes at o old out new text node lt it up put g =
     let this = node_text (value_of node) in
     record { rest = w.rest; rests = w.rests; so_far = g.so_far ∙ ap (λ (t : List ℕ). out ++ t) w.text_is ∙ sym (append_assoc out this w.rest) ∙ ap (λ (t : List ℕ). t ++ w.rest) (sym put) }
 
+-- the place of the directory of a node
 pub parent_of : (nodes : List Node) (at : ℕ) (node : Node) → at < length nodes → node ≡ get_or nodes at node → parent_at nodes at ≡ node.parent
 parent_of nodes at node lt it = let is : slice_get nodes at ≡ Some node = slice_get-get_or nodes at node lt ∙ ap Some (sym it) in rw is refl
 

@@ -53,6 +53,7 @@ all_within calls front (p ∷ behind) are =
     subst (AreWithin calls) (append_assoc front (p ∷ []) behind)
     (all_within calls (front ++ p ∷ []) behind (one_within calls front p p.fate (call_at calls p) refl refl are))
 
+-- each sync that the events begin has its place in the history
 pub are_begun : (calls : Calls) (history : List Placed) (trail : List Event) → AreSyncs calls history trail
     → AreBegun history trail
 are_begun calls history trail syncs ticket has =

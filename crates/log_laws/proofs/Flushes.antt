@@ -20,6 +20,7 @@ use Rattle.reply_laws.specs.Sides.{does_op}
 abbrev pub flushes : State → List Event → List Bool
 flushes st trail = scan after (λ st e. does_dp_flush (waiting_op st) e) st trail
 
+-- some of the events does a flush of the data partition, from a state on
 abbrev pub any_flush : State → List Event → Bool
 any_flush st trail = list_any (λ is. is) (flushes st trail)
 
@@ -87,6 +88,7 @@ until_first st e later = counted_first e (does_dp_flush (waiting_op st) e) (zip 
 
 -- ---- events that go on
 
+-- of two lists of events one does a flush just if the first does, or the second from there
 pub flush_append : (st : State) (before added : List Event)
     → any_flush st (before ++ added) ≡ (any_flush st before || any_flush (fold after st before) added)
 flush_append st before added =
@@ -144,6 +146,7 @@ no_flush (Some op) (events.Served ticket place fault) h = refl
 no_flush (Some op) (events.Worked place None) h = cc
 no_flush (Some op) (events.Worked place (Some counts)) h = refl
 
+-- where no event does an op, none does a flush
 pub none_flush : (st : State) (trail : List Event) → list_any does_op trail ≡ false → any_flush st trail ≡ false
 none_flush st [] h = refl
 none_flush st (e ∷ later) h =
@@ -164,6 +167,7 @@ an_answer : (e : Event) → is_answer e ≡ true → does_op e ≡ false
 an_answer (events.Synced ticket) h = refl
 an_answer _ h = cc
 
+-- answers do no op
 pub answers_do_none : (answers : List Event) → All (λ a. is_answer a ≡ true) answers → list_any does_op answers ≡ false
 answers_do_none [] all = refl
 answers_do_none (a ∷ later) all =

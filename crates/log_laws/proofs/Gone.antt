@@ -260,6 +260,7 @@ read_behind place (ends.Failed counts) head is well = absurd (well counts refl)
 read_behind place ends.Wrote head is well = absurd is
 read_behind place ends.Flushed head is well = absurd is
 
+-- where the head stands after an item was put, and after a place was read
 pub heads_follow_acts : {D : Type 0} (drive : Ghosts D) → HeadsFollowActs drive
 heads_follow_acts drive st old new (events.Worked place None) (op, later, end, first, at, well, step) =
     subst (λ (os : List waiting.Op). StandsBehind (events.Worked place None) (first_of os) (drive.head new)) (sym first)
@@ -320,6 +321,7 @@ exact_of drive Holds first last _ _ _
       omega (arith, before.1, here.0, commands_append start trail added),
     )
 
+-- where each command counts one and no step failed, a trail has one list of acks
 pub acks_are_exact : {D : Type 0} (drive : Ghosts D) → AcksAreExact drive
 acks_are_exact drive first last history trail acks gone one none low =
     exact_of drive (λ history acks d. Unit {0}) first last history trail acks gone one none low
@@ -381,6 +383,7 @@ risen drive Holds first last _ _ _ (acts.called history placed trail added acks 
       length-append (filter_map step_to trail) (filter_map step_to added),
     )
 
+-- each step has taken a command at least
 pub steps_take_commands : {D : Type 0} (drive : Ghosts D) → StepsTakeCommands drive
 steps_take_commands drive first last history trail acks gone =
     risen drive (λ history acks d. Unit {0}) first last history trail acks gone

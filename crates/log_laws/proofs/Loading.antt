@@ -89,6 +89,7 @@ changes old new added is trail =
           (trail_behind old.events added (subst IsTrail is trail)),
     )
 
+-- a turn of a session that waits lowers what is left to do by its step
 pub turn_takes : {D : Type 0} (most : ℕ) (before now : Drive) (old new : View D) (who ticket : ℕ) (answer : Turn)
     → IsTrail new.events → Turns most before now old new who ticket answer
     → load_of new + taken_by answer ≤ load_of old
@@ -111,6 +112,7 @@ rest_is who drained.Room =
 rest_is who drained.More = All-nil (λ (e : Event). is_submitted e ≡ false)
 rest_is who (drained.Fault counts) = All-nil (λ (e : Event). is_submitted e ≡ false)
 
+-- a turn of a session that drains lowers what is left to do by its step
 pub drain_takes : {D : Type 0} (most : ℕ) (before now : Drive) (old new : View D) (who : ℕ) (answer : Drained)
     → IsTrail new.events → DrainsOnce most before now old new who answer
     → load_of new + taken_by_drain answer ≤ load_of old
@@ -132,6 +134,7 @@ drain_takes most before now old new who answer trail d =
     made drained.More d = omega (arith, d.answered.2)
     made (drained.Fault counts) d = omega arith
 
+-- a submission adds one at most to what is left to do for each of its events
 pub submission_adds : {D : Type 0} (first now : Drive) (old new : View D) (who nth : ℕ) (answer : Submitted)
     → IsTrail new.events → Submits first now old new who nth answer
     → load_of new ≤ load_of old + (length new.events - length old.events)

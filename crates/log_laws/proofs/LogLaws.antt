@@ -242,6 +242,7 @@ drain_shows drive old new who drained.More d =
 
 -- ---- the law
 
+-- what a log tells is so at the start, and stays so over each call
 pub logs_go_on : {D : Type 0} (drive : Ghosts D) (m : Meaning) → LogsGoOn drive m
 logs_go_on drive m = record {
   begins = begins drive m;

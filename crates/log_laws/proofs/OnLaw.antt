@@ -114,12 +114,14 @@ step_by {later = later} g old made rest goes shape none None on_is queues is =
     subst (λ o. IsOn g (old.events ++ (made ++ rest)) later o) (sym (on_none old made on_is))
     (step_untold g old.events goes made rest shape none queues is)
 
+-- after a step it is still told from where on files may go to the index partition
 pub on_steps : {D : Type 0} {later : List Placed} {Next : ℕ → Placed → Type 0} (g : Given) (old : View D)
     (made rest : List Event) → GoesTo old.history later Next → AreOfStep made → list_any does_op rest ≡ false
     → filter_map queued old.events ≡ map place_of (admitted g old.on old.history)
     → IsOn g old.events old.history old.on → IsOn g (old.events ++ (made ++ rest)) later (on_after old made)
 on_steps g old made rest goes shape none queues is = step_by g old made rest goes shape none old.on refl queues is
 
+-- what is told of history, events and that place makes it so of a volume
 pub on_whole : {D : Type 0} (first : Drive) (old new : View D) (on : Option ℕ) (history : List Placed)
     (trail : List Event) → new.fixed ≡ old.fixed → new.on ≡ on → new.history ≡ history → new.events ≡ trail
     → IsOn (given old first) trail history on → IsOn (given new first) new.events new.history new.on

@@ -35,6 +35,7 @@ module _ {D : Type 0} (drive : Ghosts D) (first last : D) (acks : List Ack)
   commands : drive.commands last ≡ drive.commands first + 11
   commands = omega (arith, exact.1)
 
+-- a way with a wrong acknowledgement, count or fault is none of the worked runs'
 pub wrong_ways_are_none : {D : Type 0} (drive : Ghosts D) → WrongWaysAreNone drive
 wrong_ways_are_none drive = record {
   acknowledged = λ first last command way. one_ack drive first last (ack 2 command) way;

@@ -35,6 +35,7 @@ two_items a b = simp append-nil
 seven_items : (a b c d e f g : List ℕ) → a ++ b ++ c ++ d ++ e ++ f ++ g ≡ a ++ (b ++ (c ++ (d ++ (e ++ (f ++ (g ++ []))))))
 seven_items a b c d e f g = simp (append_assoc, append-nil)
 
+-- the text of a label's children is that of its elements
 pub children_items : (v : LabelValue) → children_text v ≡ texts_of (items_of v)
 children_items v =
     let creator = leaf_text Creator (words v.creator) in
@@ -64,6 +65,7 @@ size_back n good = record {
   valid = decimal_valid n (small n good);
 }
 
+-- the elements of a valid label are read where they are written
 pub good_items : (v : LabelValue) (m : Moment) → v.formatted ≡ civil_of m → IsWritable v.creator → v.uuid < 2 ^ 128 → IsLabel v → GoodItems place.Label (items_of v)
 good_items v m when creator fits g = (
   (form.Text, refl, record { may = refl; name = refl }, creator_back v.creator creator),

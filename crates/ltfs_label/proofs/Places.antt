@@ -93,9 +93,11 @@ reached text (p ∷ ps) at (f ∷ fs) n end all zero r =
     let x = next_of text f fs (space_end text at) p r.0 all.0 all.1 (piece_is text f 0 at p r.0 here) in
     reached text ps r.0 (after p f fs) (counted p n) end x.open_of (ap (counted p) zero ∙ x.none) r.2
 
+-- the innermost open parent of a label is always one of a label's parents
 pub reached_top : (text : List ℕ) (ps : List Piece) (inside at : ℕ) (f : Frame) (fs : List Frame) → Reaches text ps inside (fresh place.Label ∷ []) 0 (point at (f ∷ fs) 0) → of_label f.place ≡ true
 reached_top text ps inside at f fs r = (reached text ps inside (fresh place.Label ∷ []) 0 (point at (f ∷ fs) 0) (refl, tt) refl r).open_of.0
 
+-- no piece of a label begins a node
 pub none_begun : (text : List ℕ) (f : Frame) (at : ℕ) (p : Piece) (next : ℕ) → of_label f.place ≡ true → piece_at f 0 text at ≡ Ok (p, next) → counted p 0 ≡ 0
 none_begun text f at p next of h = (next_of text f [] (space_end text at) p next of tt (piece_is text f 0 at p next h)).none
 
@@ -118,6 +120,7 @@ mutual
       let rest = no_nodes text p (item_tag i ∷ seen) s.1 is end of s.3 in
       omega (arith, here, rest)
 
+-- a label has no more nodes than a document may have
 pub few_of : (text : List ℕ) (items : Items) → DocumentText place.Label text items → node_count items ≤ most_nodes
 few_of text items d = let none = no_nodes text place.Label [] d.inside items d.end refl d.children in omega (arith, none)
 
@@ -163,6 +166,7 @@ leaf_fits text f at BlockSize v next of w =
 leaf_fits text f at LtfsLabel v next of w = tt
 leaf_fits text f at _ v next of w = tt
 
+-- the size of blocks that a piece of a label tells is one that a volume may have
 pub piece_fits : (text : List ℕ) (f : Frame) (at : ℕ) (p : Piece) (next : ℕ) → of_label f.place ≡ true → piece_at f 0 text at ≡ Ok (p, next) → FitsBlock p
 piece_fits text f at (leaf tag v) next of h = leaf_fits text f (space_end text at) tag v next of (piece_is text f 0 at (leaf tag v) next h)
 piece_fits text f at closes next of h = tt
@@ -371,6 +375,7 @@ halts_plain text e (at_piece ps end f fs o is h) =
     fails_plain (piece_at f 0 text end.at) e (subst (λ (n : ℕ). piece_at f n text end.at ≡ Err e) r.none h) (piece_plain text f end.at all.0)
 halts_plain text e (at_end ps end o none ne) = refl
 
+-- where a label stops, there is something to tell of it
 pub stops_plain : (text : List ℕ) (e : PieceErr) → StopsAt place.Label text e → IsSome (told e)
 stops_plain text e (inl h) = halts_plain (readable text) e h
 stops_plain text e (inr h) = subst (λ (x : PieceErr). IsSome (told x)) (sym h.1) refl

@@ -28,6 +28,7 @@ value_closed : (v : LabelValue) (ps : List Piece) → value_from v (ps ++ closes
 value_closed v [] = refl
 value_closed v (p ∷ ps) = value_closed (set p v) ps
 
+-- a UTF-8 text that is read as a label is that label's text
 pub read_spelled : (text : List ℕ) (v : LabelValue) → IsUtf8 text → Reads text v → LabelText text v
 read_spelled text v valid r =
     let e = elements_of place.Label text r.ps valid r.accepts in
@@ -42,15 +43,18 @@ spelled_read text v t = record {
 
 -- ---- one way
 
+-- a text is that of one label at most
 pub one_value : (text : List ℕ) (v w : LabelValue) → LabelText text v → LabelText text w → v ≡ w
 one_value text v w s t =
     let x = spelled_read text v s in
     let y = spelled_read text w t in
     x.value ∙ ap (value_from blank) (once.one_document place.Label text x.ps y.ps x.accepts y.accepts).pieces ∙ sym y.value
 
+-- a label's text stops nowhere
 pub never_both : (text : List ℕ) (v : LabelValue) (e : LabelErr) → LabelText text v → Stops text e → ⊥
 never_both text v e t s = let x = spelled_read text v t in once.never_both place.Label text x.ps s.why t.spelled.valid x.accepts s.stops
 
+-- a text that is no label's is refused in one way
 pub one_refusal : (text : List ℕ) (e f : LabelErr) → Stops text e → Stops text f → e ≡ f
 one_refusal text e f s t =
     let same = once.one_stop place.Label text s.why t.why s.stops t.stops in
@@ -59,6 +63,7 @@ one_refusal text e f s t =
 
 -- ---- what the reader gives
 
+-- a label behind which bytes follow that are no UTF-8 is refused where they begin
 pub ends_badly : (text front : List ℕ) (v : LabelValue) → front ≡ readable text → Reads front v → (length front ≡ length text → ⊥) → Stops text (errors.Syntax (length front))
 ends_badly text front v same r more = record {
   why = pieces.Syntax (length front);
@@ -82,6 +87,7 @@ only_memory errors.Version text v t s = absurd (never_both text v _ t s)
 only_memory (errors.Missing tag) text v t s = absurd (never_both text v _ t s)
 only_memory (errors.Number at) text v t s = absurd (never_both text v _ t s)
 
+-- the reader of a label's text gives that label, or wants memory
 pub only_is : (r : Result Label LabelErr) (text : List ℕ) (v : LabelValue) → IfOk r (λ l. LabelText text (label_of l)) → IfErr r (λ e. UnlessMemory e (Stops text e)) → LabelText text v → IsReadOr r v
 only_is (Ok l) text v found refused t = one_value text (label_of l) v found t
 only_is (Err e) text v found refused t = only_memory e text v t refused
@@ -90,6 +96,7 @@ unless_always : (e : LabelErr) (P : Type 0) → P → UnlessMemory e P
 unless_always errors.NoMemory P p = tt
 unless_always _ P p = p
 
+-- a halt in the readable front of a text is the refusal of the text
 pub refused_is : (text front : List ℕ) (why : PieceErr) (e : LabelErr) → front ≡ readable text → told why ≡ Some e → answers.UnlessMemory why (Halts place.Label front why) → UnlessMemory e (Stops text e)
 refused_is text front pieces.NoMemory e same is h = let k : errors.NoMemory ≡ e = cc in subst (λ (x : LabelErr). UnlessMemory x (Stops text x)) k tt
 refused_is text front why e same is h =
@@ -97,6 +104,7 @@ refused_is text front why e same is h =
 
 -- ---- each text is one, or stops
 
+-- a text is a label's, or stops in some way
 abbrev pub Judged : List ℕ → Type 0
 Judged text = ((v : LabelValue) × LabelText text v) ⊎ ((e : LabelErr) × Stops text e)
 
@@ -104,6 +112,7 @@ stopped : (text : List ℕ) (why : PieceErr) (o : Option LabelErr) → told why 
 stopped text why None is some h = absurd (let bad : ◌≡◌ {A = Bool} false true = some in cc)
 stopped text why (Some e) is some h = inr (e, record { why = why; stops = h; told_so = is })
 
+-- each text is a label's or stops
 pub label_or_stops : (text : List ℕ) → Judged text
 label_or_stops text = ⊎_elim
     (λ (a : IsAccepted place.Label text). inl (value_from blank a.0, read_spelled text (value_from blank a.0) a.1 (record { ps = a.0; accepts = a.2; value = refl })))
@@ -132,6 +141,7 @@ from_formatted : (ps : List Piece) (v : LabelValue) → AllByRecursion IsTimedPi
 from_formatted [] v all h = h
 from_formatted (p ∷ ps) v all h = from_formatted ps (set p v) all.1 (set_formatted p v all.0 h)
 
+-- the time of formatting that a label's text tells is that of a moment
 pub label_formatted : (text : List ℕ) (v : LabelValue) → LabelText text v → HasMoment v.formatted
 label_formatted text v t =
     let r = spelled_read text v t in

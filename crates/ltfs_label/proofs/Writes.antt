@@ -18,6 +18,7 @@ use Rattle.ltfs_label.proofs.Items.{children_items, good_items, items_of}
 four : (a b c d : List ℕ) → a ++ b ++ c ++ d ≡ a ++ (b ++ (c ++ d))
 four a b c d = simp append_assoc
 
+-- the text that is written of a valid label is that label's
 pub canonical_label : (v : LabelValue) (m : Moment) → v.formatted ≡ civil_of m → IsUtf8 v.creator → v.uuid < 2 ^ 128 → IsLabel v → LabelText (canonical v) v
 unfolding canonical
 canonical_label v m when valid fits g =

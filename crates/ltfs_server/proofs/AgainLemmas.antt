@@ -97,12 +97,14 @@ module _ (r : Run) (drive new : View) (sink : Written) (status : ℕ) (log : Opt
       ∙ ap (λ (limits : Limits). made image limits []) (runs.does.serve is.0 is.1).limits
 
   module _ (image : Cartridge) (left : Leaves new.held new.acts image) where
+    -- what a crash leaves of a run over a drive in memory is ready for serving again
     pub again_ready : (facts : Carried) (tree : Tree) (generation : ℕ) → IsReady facts tree generation drive
         → IsReadyAgain to_serve r.source facts tree generation log (made image drive.limits [])
     again_ready facts tree generation ready =
         ready_again to_serve (one_moment is.0 r.one) r.source drive new sink status log sentence facts tree generation ready
         image left drive.limits []
 
+    -- an image of a run that left a log holds that log
     pub was_served : IfSome log (λ (l : Log). (facts : Carried) (tree : Tree) (generation : ℕ)
         → IsReady facts tree generation drive
         → (lines : List ScriptLine) × IsScriptIn r.source lines × HoldsLog facts lines tree l image)
@@ -117,6 +119,7 @@ module _ (r : Run) (drive new : View) (sink : Written) (status : ℕ) (log : Opt
         by (Some l) again = λ facts tree generation ready.
             let a = again facts tree generation ready in (a.0, a.1, a.2.holds)
 
+    -- without a log a crash leaves the cartridge as it was
     pub not_served : (facts : Carried) (tree : Tree) (generation : ℕ) → IsReady facts tree generation drive
         → log ≡ None → image ≡ drive.held
     not_served facts tree generation ready none =
@@ -132,6 +135,7 @@ module _ (r : Run) (drive new : View) (sink : Written) (status : ℕ) (log : Opt
         by None again = honest_notes image again.sound.honest
         by (Some l) again = honest_notes image again.2.ready.sound.honest
 
+    -- a drive that begins with what a crash leaves has honest notes
     pub next_honest : (next : View) → next ≡ made image drive.limits []
         → (facts : Carried) (tree : Tree) (generation : ℕ) → IsReady facts tree generation drive
         → HasHonestNotes next.held

@@ -93,6 +93,7 @@ none_logged : (words : List (String Global)) (log : Option Log) → log ≡ None
 none_logged words log none = subst (λ l. IfSome l (λ l. RunScripts words)) (sym none) tt
 
 module _ {D : Type 0} (words : List (String Global)) (gives : Gives) (one : Option Moment) (source : Taken) (sink : Written) (drive : Ghosts D) (old new : D) (status : ℕ) (log : Option Log) where
+  -- what `plain` promises is promised of its words
   pub plain_asked : (at : Option Moment) → IsPlainWords words at → DoesPlain at gives source sink old new status log
       → DoesAsked words gives one source sink drive old new status log
   plain_asked at spelled does =
@@ -121,6 +122,7 @@ module _ {D : Type 0} (words : List (String Global)) (gives : Gives) (one : Opti
         told = (of_plain does.told.0, (at, spelled, does.told.1), does.told.2);
       }
 
+  -- what `label` promises is promised of its words
   pub label_asked : IsLabel words → TakesNothing source → DoesLabel drive old new sink status log → DoesAsked words gives one source sink drive old new status log
   label_asked spelled nothing does = record {
     plain = λ at are. absurd (names_differ words (codes "plain") (codes "label") refl (plain_named words (at, are)) (label_named words spelled));
@@ -147,6 +149,7 @@ module _ {D : Type 0} (words : List (String Global)) (gives : Gives) (one : Opti
     told = (of_label does.told.0, (spelled, nothing, does.told.1), does.told.2);
   }
 
+  -- what `list` promises is promised of its words
   pub list_asked : IsList words → TakesNothing source → DoesList drive old new sink status log → DoesAsked words gives one source sink drive old new status log
   list_asked spelled nothing does = record {
     plain = λ at are. absurd (names_differ words (codes "plain") (codes "list") refl (plain_named words (at, are)) (list_named words spelled));
@@ -173,6 +176,7 @@ module _ {D : Type 0} (words : List (String Global)) (gives : Gives) (one : Opti
     told = (of_list does.told.0, (spelled, nothing, does.told.1), does.told.2);
   }
 
+  -- what `generations` promises is promised of its words
   pub generations_asked : IsGenerations words → TakesNothing source → DoesGenerations drive old new sink status log → DoesAsked words gives one source sink drive old new status log
   generations_asked spelled nothing does = record {
     plain = λ at are. absurd (names_differ words (codes "plain") (codes "generations") refl (plain_named words (at, are)) (generations_named words spelled));
@@ -199,6 +203,7 @@ module _ {D : Type 0} (words : List (String Global)) (gives : Gives) (one : Opti
     told = (of_generations does.told.0, (spelled, nothing, does.told.1), (does.no_log, does.told.2));
   }
 
+  -- what `view` promises is promised of its words
   pub view_asked : (asked : ViewWords) → IsViewWords words asked → TakesNothing source → DoesView asked drive old new sink status log
       → DoesAsked words gives one source sink drive old new status log
   view_asked asked spelled nothing does =
@@ -227,6 +232,7 @@ module _ {D : Type 0} (words : List (String Global)) (gives : Gives) (one : Opti
         told = (of_view does.told.0, (asked, spelled, nothing, does.told.1), (does.no_log, does.told.2));
       }
 
+  -- what `format` promises is promised of its words
   pub format_asked : (asked : FormatWords) → IsFormatWords words asked → TakesNothing source → DoesFormat asked gives drive old new sink status log
       → DoesAsked words gives one source sink drive old new status log
   format_asked asked spelled nothing does =
@@ -255,6 +261,7 @@ module _ {D : Type 0} (words : List (String Global)) (gives : Gives) (one : Opti
         told = (of_format does.told.0, (asked, spelled, nothing, does.told.1), does.told.2);
       }
 
+  -- what `serve` promises is promised of its words
   pub serve_asked : (at : Option Moment) → IsServeWords words at → DoesServe (one_moment at one) source drive old new sink status log
       → DoesAsked words gives one source sink drive old new status log
   serve_asked at spelled does =
@@ -283,6 +290,7 @@ module _ {D : Type 0} (words : List (String Global)) (gives : Gives) (one : Opti
         told = (of_serve does.told.0, (at, spelled, does.told.1), does.told.2);
       }
 
+  -- what `make` promises is promised of its words
   pub make_asked : (count : ℕ) (at : Option Moment) → IsMakeWords words count at → TakesNothing source → DoesMake (one_moment at one) count drive old new sink status log
       → DoesAsked words gives one source sink drive old new status log
   make_asked count at spelled nothing does =
@@ -314,6 +322,7 @@ module _ {D : Type 0} (words : List (String Global)) (gives : Gives) (one : Opti
         told = (of_make does.told.0, (count, at, spelled, nothing, does.told.1), does.told.2);
       }
 
+  -- words of no form are refused as is promised
   pub form_asked : HasNoForm words → TakesNothing source → new ≡ old → log ≡ None → IsTold 1 (codes "words\n") sink status
       → DoesAsked words gives one source sink drive old new status log
   form_asked none nothing same no_log told =
@@ -368,6 +377,7 @@ module _ {D : Type 0} (words : List (String Global)) (gives : Gives) (one : Opti
         };
       }
 
+  -- want of memory before the words are known is told as is promised
   pub memory_asked : TakesNothing source → new ≡ old → drive.commands old ≤ 2 ^ 64 - 1 → log ≡ None → IsTold 7 (codes "memory\n") sink status
       → DoesAsked words gives one source sink drive old new status log
   memory_asked nothing same range no_log told =
@@ -409,27 +419,35 @@ module _ {D : Type 0} (words : List (String Global)) (gives : Gives) (one : Opti
 pub asked_plain : (w words : List (String Global)) (k : Command) (at : Option Moment) → w ≡ words → k ≡ commands.Plain at → IsSpelledBy w (Ok k) → IsPlainWords words at
 asked_plain w words k at same is spelled = subst (λ v. IsPlainWords v at) same (subst (λ (k : Command). IsSpelledBy w (Ok k)) is spelled)
 
+-- words that are read as `label` are of its form
 pub asked_label : (w words : List (String Global)) (k : Command) → w ≡ words → k ≡ commands.Label → IsSpelledBy w (Ok k) → IsLabel words
 asked_label w words k same is spelled = subst IsLabel same (subst (λ (k : Command). IsSpelledBy w (Ok k)) is spelled)
 
+-- words that are read as `list` are of its form
 pub asked_list : (w words : List (String Global)) (k : Command) → w ≡ words → k ≡ commands.List → IsSpelledBy w (Ok k) → IsList words
 asked_list w words k same is spelled = subst IsList same (subst (λ (k : Command). IsSpelledBy w (Ok k)) is spelled)
 
+-- words that are read as `generations` are of its form
 pub asked_generations : (w words : List (String Global)) (k : Command) → w ≡ words → k ≡ commands.Generations → IsSpelledBy w (Ok k) → IsGenerations words
 asked_generations w words k same is spelled = subst IsGenerations same (subst (λ (k : Command). IsSpelledBy w (Ok k)) is spelled)
 
+-- words that are read as `view` are of its form, with these values
 pub asked_view : (w words : List (String Global)) (k : Command) (asked : ViewWords) → w ≡ words → k ≡ commands.View asked → IsSpelledBy w (Ok k) → IsViewWords words asked
 asked_view w words k asked same is spelled = subst (λ v. IsViewWords v asked) same (subst (λ (k : Command). IsSpelledBy w (Ok k)) is spelled)
 
+-- words that are refused for their form are of no form
 pub asked_none : (w words : List (String Global)) (e : WordsErr) → w ≡ words → e ≡ word_errors.Form → IsSpelledBy w (Err e) → HasNoForm words
 asked_none w words e same is spelled = subst HasNoForm same (subst (λ (e : WordsErr). IsSpelledBy w (Err e)) is spelled)
 
+-- words that are read as `format` are of its form, with these values
 pub asked_format : (w words : List (String Global)) (k : Command) (asked : FormatWords) → w ≡ words → k ≡ commands.Format asked → IsSpelledBy w (Ok k) → IsFormatWords words asked
 asked_format w words k asked same is spelled = subst (λ v. IsFormatWords v asked) same (subst (λ (k : Command). IsSpelledBy w (Ok k)) is spelled)
 
+-- words that are read as `serve` are of its form, with this moment
 pub asked_serve : (w words : List (String Global)) (k : Command) (at : Option Moment) → w ≡ words → k ≡ commands.Serve at → IsSpelledBy w (Ok k) → IsServeWords words at
 asked_serve w words k at same is spelled = subst (λ v. IsServeWords v at) same (subst (λ (k : Command). IsSpelledBy w (Ok k)) is spelled)
 
+-- words that are read as `make` are of its form, with this count and moment
 pub asked_make : (w words : List (String Global)) (k : Command) (count : ℕ) (at : Option Moment) → w ≡ words → k ≡ commands.Make count at → IsSpelledBy w (Ok k) → IsMakeWords words count at
 asked_make w words k count at same is spelled = subst (λ v. IsMakeWords v count at) same (subst (λ (k : Command). IsSpelledBy w (Ok k)) is spelled)
 
@@ -447,6 +465,7 @@ given_few text count is = by (option_and_then number_of text) is
     by None same = cc same
     by (Some n) same = by_test n (nat_le 1 n && nat_le n most_calls) refl same
 
+-- `make` asks for at most 1,024 calls a session
 pub make_few : (words : List (String Global)) (count : ℕ) (at : Option Moment) → IsMakeWords words count at → count ≤ most_calls
 make_few words count at is = given_few (value_of make_app (codes "count") is.1) count is.3.counted
 

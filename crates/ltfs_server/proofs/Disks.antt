@@ -65,6 +65,7 @@ module _ {D : Type 0} (disk : Ghosts D) (drive : Drives (View D)) (same : (v : V
         sure = λ x left. o.3 x (only_now disk first x (λ f now. only first.slots.disk f ready.low now) ready.low left) ∙ is;
       }
 
+  -- a run over a tape on a disk survives crashes of the disk
   pub disks_survive : (now : View D) → ImagesOpen disk now → SurvivesOnDisks disk drive now
   disks_survive now opens files told asked moment source first sink status log s facts tree generation ready =
       let found : IsFoundAgain s.script (on_disk disk first) (on_disk disk now) log =
@@ -114,6 +115,7 @@ module _ (disk : Ghosts Disk) (meant : (b : Disk) → disk.held b ≡ told b.hel
     low = omega (arith, counts first.slots.disk, ready.low);
   }
 
+  -- so it does in words of the record of a disk in memory
   pub survives_in_files : (drive : Drives (View Disk)) (now : View Disk) → disk.held now.slots.disk ≡ Some now.slots.disk.held
       → ((image : Files) → Gives now.slots.disk.held now.slots.disk.acts image → disk.leaves now.slots.disk image)
       → ((t : ℕ) (image : Files) → GaveSince now.slots.disk.held now.slots.disk.acts t image → disk.left_since now.slots.disk t image)

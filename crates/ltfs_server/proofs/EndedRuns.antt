@@ -31,6 +31,7 @@ failed_rose drive old new moment script log counts is =
     let rise : IsRise (last_fault (seen drive old) log) (drive.faults new) counts.before counts.after = is.ends in
     rose_since (drive.faults old) (last_fault (seen drive old) log) (drive.faults new) counts.before counts.after least rise
 
+-- the statuses of a run that came through are among those of one that ended
 pub done_or_refused : (n : ℕ) → IsOneOf n (0 ∷ 7 ∷ []) → IsOneOf n (0 ∷ 7 ∷ 8 ∷ [])
 done_or_refused n (inl zero) = inl zero
 done_or_refused n (inr (inl seven)) = inr (inl seven)

@@ -32,14 +32,17 @@ one_script left text script own is spelled same =
 
 module _ (words : List (String Global)) (one moment : Option Moment)
     (given : (at : Option Moment) × IsServeWords words at × (one_moment at one ≡ moment)) where
+  -- words of `serve` aren't words of `make`
   pub no_make : (count : ℕ) (at : Option Moment) → IsMakeWords words count at → ⊥
   no_make count at are = names_differ words (codes "serve") (codes "make") refl
       (serve_named words (given.0, given.1)) (make_named words (count, at, are))
 
+  -- words of `serve` aren't words of `format`
   pub no_format : (asked : FormatWords) → IsFormatWords words asked → ⊥
   no_format asked are = names_differ words (codes "serve") (codes "format") refl
       (serve_named words (given.0, given.1)) (format_named words (asked, are))
 
+  -- an owner who allows what the ordered run may leave allows `serve`
   pub may_serve : {D : Type 0} (drive : Ghosts D) (d : D) (left : Option (List ℕ)) (own : List ScriptLine) (facts : Carried)
       (tree : Tree) → AllowsServed drive.allows own moment facts tree
       → (text : List ℕ) × (left ≡ Some text) × (script_of text ≡ Ok own)

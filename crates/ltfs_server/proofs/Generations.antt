@@ -235,6 +235,7 @@ module _ {D : Type 0} (drive : Ghosts D) (old new : D) (moment : Option Moment) 
       acknowledged = acknowledged_at;
     }
 
+-- a run that was closed leaves its own indexes as the top of the chain
 pub runs_leave_generations : {D : Type 0} (drive : Ghosts D) → RunsLeaveGenerations drive
 runs_leave_generations drive old new moment script log generation tree mounted first ends can told =
     let top = ends.own tree mounted first can told in

@@ -125,6 +125,7 @@ module _ {D : Type 0} (drive : Ghosts D) (old new : D) (moment : Option Moment) 
     memory_is (made l (Failed counts) nodes) told = absurd (cc told.0)
     memory_is (starved l) told = told.1
 
+    -- how a made run came to its end, and what was told of it, are what `make` promises
     pub make_does : (status : ℕ) (end : MadeEnd) → Ends end
         → (made_log end ≡ None → Looks drive (mount_most (drive.limits old) * drive.MOST) old new)
         → drive.limits new ≡ drive.limits old → (drive.held old ≡ None → drive.held new ≡ None) → EndsAs (of_make end) sink status log → DoesMake moment count drive old new sink status log

@@ -101,6 +101,7 @@ module _ {D : Type 0} (drive : Ghosts D) (moment : Option Moment) (count : ℕ) 
       by_end drive moment count start now log sink status whole.limits whole.untold end whole (subst (λ w. IsTold w (closed_line (Some log) end) sink status) status_is told)
   by_log (Some log) end whole wanted status_is (inr told) = does drive moment count start now log sink status whole.limits whole.untold (starved log) whole.run refl told
 
+-- what came of a made script, and was told, is what `make` promises
 pub make_told : {D : Type 0} (drive : Ghosts D) (moment : Option Moment) (count : ℕ) (sink : Written) (status : ℕ) (start new : D) (s : Served D) (result : Option Log)
     → Whole drive start moment (made_script count) s → new ≡ s.drive → result ≡ s.log → (wanted : ℕ) → wanted ≡ end_status s.end
     → IsTold wanted (closed_line s.log s.end) sink status ⊎ IsTold 7 (codes "memory\n") sink status → DoesMake moment count drive start new sink status result

@@ -98,6 +98,7 @@ module _ {D : Type 0} (drive : Ghosts D)
   closed : (newest : ℕ) × IsReadyFor drive facts (tree_of_log s.script tree log (length log.history)) newest new
   closed = let so = s.close (inl refl) in by_end so.end so.status_is so.ends
 
+-- a drive is ready once its cartridge was formatted, and once a run was closed
 pub leaves_ready : {D : Type 0} (drive : Ghosts D)
     → ((d : D) (image : Cartridge) → drive.commands d < 2 ^ 64 - 1
     → drive.left_since d (drive.commands d) image → drive.leaves d image)

@@ -220,6 +220,7 @@ module _ {D : Type 0} (drive : Ghosts D) (old new : D) (moment : Option Moment) 
     memory_is (unclosed l) same told = subst (IsRefusedPrinted sink) (sym same) (inr told.1)
     memory_is (unwritten l) same told = subst (IsRefusedPrinted sink) (sym same) (inl told.1)
 
+    -- how serving came to its end, and what was told of it, are what `serve` promises
     pub serve_does : (status : ℕ) (end : ServedEnd) → Ends end
         → (served_log end ≡ None → Looks drive (mount_most (drive.limits old) * drive.MOST) old new)
         → drive.limits new ≡ drive.limits old → (drive.held old ≡ None → drive.held new ≡ None) → EndsAs (of_serve end) sink status log → DoesServe moment source drive old new sink status log

@@ -56,6 +56,7 @@ blames (errors.BadExtent uid) held three is = is
 blames (errors.Drive said) held three is = absurd (cc three)
 blames errors.NoMemory held three is = absurd (cc three)
 
+-- a mount that ends with status 3 tells no fault of the drive
 pub no_counts : (e : MountErr) (before now : ℕ) → mount_status e ≡ 3 → AreCounts before now e
 no_counts (errors.Vol1 part) before now three = tt
 no_counts (errors.Label part) before now three = tt
@@ -171,6 +172,7 @@ module _ {D : Type 0} (drive : Ghosts D) (moment : Option Moment) (source : Take
       does drive moment source sink status script is start now log whole.limits whole.untold (Some log) (unwritten log)
       (run_of drive moment source sink status script is start now log whole.limits whole.untold whole.run) refl refl told
 
+-- what came of a script that was served, and was told, is what `serve` promises
 pub serve_told : {D : Type 0} (drive : Ghosts D) (moment : Option Moment) (source : Taken) (sink : Written) (status : ℕ) (script : List ScriptLine) (start new : D) (s : Served D) (result : Option Log)
     → Whole drive start moment script s → IsScriptIn source script → new ≡ s.drive → result ≡ s.log → (wanted : ℕ) → wanted ≡ end_status s.end
     → IsTold wanted (told_whole s.log s.end) sink status ⊎ IsTold 7 (codes "memory\n") sink status → DoesServe moment source drive start new sink status result

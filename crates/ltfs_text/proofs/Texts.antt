@@ -46,9 +46,11 @@ utf8_bytes name u = rw (← u.1.1) (all_chars u.0 u.1.0)
 escaped : agree_below (contains ESCAPED) (λ b. is_ascii_control b || (b == 37)) 128 ≡ true
 escaped = refl
 
+-- which ASCII bytes are escaped: the control characters and the percent sign
 pub escaped_at : (b : ℕ) → b < 128 → contains ESCAPED b ≡ (is_ascii_control b || (b == 37))
 escaped_at b ascii = agree_below_at (contains ESCAPED) (λ k. is_ascii_control k || (k == 37)) 128 b escaped ascii
 
+-- the bytes that the encoder escapes are those that have to be
 pub escapes : (b : ℕ) → should_percent_encode ESCAPED b ≡ is_escaped b
 unfolding should_percent_encode
 escapes b =
@@ -57,6 +59,7 @@ escapes b =
       | false ↦ λ e. grind (arith, nat_tests)
     ] refl
 
+-- the encoder gives the form of a name that the definition says
 pub encodes_as : (name : List ℕ) → percent_encode ESCAPED name ≡ encoded name
 unfolding percent_encode
 encodes_as [] = refl
@@ -64,6 +67,7 @@ encodes_as (b ∷ name) =
     ap (λ (v : Bool). cond v (percent_encode_byte b) (b ∷ []) ++ percent_encode ESCAPED name) (escapes b)
     ∙ ap (λ (s : List ℕ). cond (is_escaped b) (percent_encode_byte b) (b ∷ []) ++ s) (encodes_as name)
 
+-- the text that is written of a name stands for that name
 pub written_back : (name : List ℕ) → IsUtf8 name → IsTextOf (written name).percent (written name).text name
 written_back name u =
     elim (has_special name) as (λ b. has_special name ≡ b → IsTextOf (written name).percent (written name).text name) [
@@ -85,6 +89,7 @@ encoded_plain name =
     rw (chars-IsAscii _ (IsAscii-percent_encode ESCAPED name))
     (list_any_none is_special _ (All-percent_encode (λ b. is_special b ≡ false) ESCAPED name kept_plain digit_plain))
 
+-- the text that is written of a name has no special character
 pub written_plain : (name : List ℕ) → has_special (written name).text ≡ false
 written_plain name =
     elim (has_special name) as (λ b. has_special name ≡ b → has_special (written name).text ≡ false) [

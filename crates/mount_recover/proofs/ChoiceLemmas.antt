@@ -41,6 +41,7 @@ use Rattle.volume_scan.proofs.Told.{lacks_form}
 
 -- ---- where the next items go
 
+-- the place of a last index is that of the newest index of its partition
 pub place_is : (l : LastIndex) (k : readings.Construct) (older : List readings.Construct) → place_in (Some l) ≡ newest (k ∷ older) → l.place ≡ places_of k
 place_is l k older is = cc
 
@@ -77,6 +78,7 @@ ends_ip items last found end seen is ends =
     ends_in (content items).pos (content items).phase (content items).constructs last found end (content_placed items).ends (sound_phase items seen.form)
     seen.lead (seen.front ∙ sym (pos_is items seen.long (sound_phase items seen.form))) is ends
 
+-- the end of the data partition by what is kept of its last index
 pub ends_dp : (ks : List readings.Construct) (last : Option LastIndex) → place_in last ≡ newest ks → dp_ends (standing_of last) ≡ end_dp ks
 ends_dp [] None is = refl
 ends_dp [] (Some l) is = absurd (cc is)
@@ -119,6 +121,7 @@ picked_alike twin dp = record {
 -- ---- what is decided
 
 module _ (c : Cartridge) (labels : Labels) (ends : Ends) (lasts : Lasts) (forms : HasForms c labels) (ends_are : AreEndsOf c ends) (are : AreLasts labels.ip lasts c) where
+  -- where neither partition has a last index, the fault is that there is none
   pub no_index : HasNone lasts → MountFault c errors.NoIndex
   no_index none = record {
     labels = labels;
@@ -134,6 +137,7 @@ module _ (c : Cartridge) (labels : Labels) (ends : Ends) (lasts : Lasts) (forms 
     dp_is : choice.ends.dp ≡ dp_end c
     dp_is = ap (λ (e : Ends). e.dp) same ∙ ends_are.dp
 
+    -- a choice whose extents lie before the ends is decided
     pub decided : AllByRecursion (FitsNode labels.ip choice.ends.ip choice.ends.dp) choice.index.nodes → IsDecided labels lasts choice c
     decided fits = record {
       forms = forms;
@@ -219,6 +223,7 @@ module _ (labels : Labels) (ends : Ends) (lasts : Lasts) (choice : Choice) (is :
   err_faults (Err e) out =
       λ c forms ends_are are. subst (λ (x : MountErr). MountFault c x) (sym out.1) (bad_extent c labels ends lasts forms ends_are are choice is same out.0 out.2)
 
+-- a fault of an extent tells no counts of a failed drive
 pub err_counts : (r : Result Choice MountErr) (P : ℕ → Type 0) → IfErr r (λ e. (uid : ℕ) × (e ≡ errors.BadExtent uid) × P uid)
     → IfErr r (λ e. (before now : ℕ) → AreCounts before now e)
 err_counts (Ok x) P out = tt

@@ -44,9 +44,11 @@ block_read (Some Mark) answer buf b read is = absurd (cc is)
 block_read (Some Torn) answer buf b read is = absurd (cc is)
 block_read (Some (Block d)) answer buf b read is = let same : d ≡ b = cc is in (read.0, read.1 ∙ same)
 
+-- a read that answers a block leaves the head at the next position
 pub after_block_read : (answer : Got) (at : Place) → answer ≡ got.Block → after_read answer at ≡ next at
 after_block_read answer at is = subst (λ (a : Got). after_read a at ≡ next at) (sym is) refl
 
+-- one block more joins those before it
 pub concat_more : (bs : List (List ℕ)) (n : ℕ) (b : List ℕ) → slice_get bs n ≡ Some b → concat (take (suc n) bs) ≡ concat (take n bs) ++ b
 concat_more [] n b is = absurd (cc is)
 concat_more (x ∷ bs) zero b is = let same : x ≡ b = cc is in append_nil x ∙ same
@@ -58,10 +60,12 @@ concat_more (x ∷ bs) (suc n) b is = ap (λ (l : List ℕ). x ++ l) (concat_mor
 
 -- ---- a block behind the bytes that are read
 
+-- the rest of a list is all from its place on
 pub rest_of : (at : ℕ) (xs : List ℕ) → take (length xs - at) (drop at xs) ≡ drop at xs
 rest_of at xs = take_all (length xs - at) (drop at xs) (omega (arith, length-drop at xs))
 
 module _ (read : Beside) (block before : List ℕ) (within : read.at ≤ length before) where
+  -- a block that stands there already is read without being put
   pub stands_there : starts_with nat_eq (drop read.at before) block ≡ true
       → IsPut read block before before (record { at = read.at + length block; same = read.same })
   stands_there begins =
@@ -99,6 +103,7 @@ module _ {D : Type 0} (drive : Ghosts D) where
         → StandAt (items_of at.part c) at.pos bs
         → (drive.head now ≡ Some (record { part = at.part; pos = at.pos + done })) × (take read.at document ≡ concat (take done bs))
 
+  -- before its first block nothing of a document is read
   pub begun : (first : D) (before : List ℕ) (blocks : ℕ) → drive.commands first ≤ 2 ^ 64 - 1 → (at : Place) × (drive.head first ≡ Some at)
       → Going first first before before blocks 0 (record { at = 0; same = true })
   begun first before blocks commands head = record {
@@ -117,6 +122,7 @@ module _ {D : Type 0} (drive : Ghosts D) where
       place_same : (at : Place) → at ≡ record { part = at.part; pos = at.pos + 0 }
       place_same at = let same : at.pos ≡ at.pos + 0 = omega arith in λ i. record { part = at.part; pos = same i }
 
+  -- one block more of a document is read, or found to stand there
   pub goes_on : (first now after : D) (before document more buffer : List ℕ) (blocks done : ℕ) (read next_read : Beside)
       → Going first now before document blocks done read → done < blocks
       → (at : Place) × (drive.head after ≡ Some at) → drive.faults now ≤ drive.faults after → Looks drive drive.MOST now after
@@ -157,6 +163,7 @@ module _ {D : Type 0} (drive : Ghosts D) where
 
   module _ (first now : D) (before document left : List ℕ) (blocks done : ℕ) (read : Beside)
       (going : Going first now before document blocks done read) (le : blocks ≤ done) (cut : left ≡ take read.at document) where
+    -- once all its blocks are read, the document is what stands there
     pub all_read : (at : Place) (c : Cartridge) (bs : List (List ℕ)) → drive.head first ≡ Some at → drive.held first ≡ Some c → length bs ≡ blocks
         → StandAt (items_of at.part c) at.pos bs → left ≡ concat bs
     all_read at c bs h k len stand =
@@ -165,6 +172,7 @@ module _ {D : Type 0} (drive : Ghosts D) where
     pub all_same : read.same ≡ true → read.at ≡ length document → left ≡ before
     all_same same long = cut ∙ take_all read.at document (omega (arith, long)) ∙ going.same same
 
+    -- reading a document takes as many reads as it has blocks
     pub all_looks : Looks drive (blocks * drive.MOST) first now
     all_looks =
         let same : done ≡ blocks = omega (arith, going.within, le) in subst (λ (n : ℕ). Looks drive (n * drive.MOST) first now) same going.looks
@@ -190,6 +198,7 @@ index_within items place known =
       front_within items,
     )
 
+-- an index that stands on a partition begins within it
 pub indexes_within : (part : Part) (place : Construct) (o : Option Cartridge) → IfSome o (λ c. HasIndexAt (items_of part c) place)
     → IfSome o (λ c. place.first ≤ length (items_of part c))
 indexes_within part place None known = tt

@@ -7,6 +7,7 @@ use Rattle.cartridge_meaning.specs.Meaning.{FitsNode}
 use Rattle.mount_recover.specs.Lasts.{IsFirstOutside}
 
 module _ {X : Type 0} (P : X → Type 0) where
+  -- what holds of all elements holds of the one at a place
   pub all_at : (xs : List X) (i : ℕ) (x : X) → slice_get xs i ≡ Some x → AllByRecursion P xs → P x
   all_at [] i x is all = absurd (cc is)
   all_at (y ∷ xs) zero x is all = let same : y ≡ x = cc is in subst P same all.0
@@ -17,15 +18,18 @@ module _ {X : Type 0} (P : X → Type 0) where
   more (y ∷ xs) zero x is all holds = let same : x ≡ y = sym (let back : y ≡ x = cc is in back) in (subst P same holds, tt)
   more (y ∷ xs) (suc i) x is all holds = (all.0, more xs i x is all.1 holds)
 
+  -- what holds of the first elements and of the next one holds of them together
   pub all_more : (xs : List X) (i : ℕ) (x : X) → slice_get xs i ≡ Some x → AllByRecursion P (take i xs) → P x → AllByRecursion P (take (i + 1) xs)
   all_more xs i x is all holds =
       let next : suc i ≡ i + 1 = omega arith in subst (λ (n : ℕ). AllByRecursion P (take n xs)) next (more xs i x is all holds)
 
+  -- what holds of as many first elements as there are holds of all
   pub all_whole : (n : ℕ) (xs : List X) → length xs ≤ n → AllByRecursion P (take n xs) → AllByRecursion P xs
   all_whole n [] le all = tt
   all_whole zero (x ∷ xs) le all = absurd (omega (arith, le))
   all_whole (suc n) (x ∷ xs) le all = (all.0, all_whole n xs (omega (arith, le)) all.1)
 
+-- a list is what stands before a place, what stands there, and what follows
 pub parted : {X : Type 0} (xs : List X) (i : ℕ) (x : X) → slice_get xs i ≡ Some x → xs ≡ take i xs ++ x ∷ drop (suc i) xs
 parted [] i x is = absurd (cc is)
 parted (y ∷ xs) zero x is = let same : y ≡ x = cc is in ap (λ (z : _). z ∷ xs) same

@@ -103,6 +103,7 @@ ends_before items count last s is front_is differ ends =
     let within : s.place.after ≤ count = subst (λ (o : Option Standing). IfSome o (λ s. s.place.after ≤ count)) is front_is.within in
     differ (omega (arith, all, within, front_is.count_is, front_within items))
 
+-- a partition that was scanned has its front, within which the last index ends
 pub front_of : (items : List Item) (found : Content) (last : Option LastIndex) (standing : Option Standing) → IsSeen items found
     → place_in last ≡ newest (indexes_of items) → standing ≡ standing_of last → IsFront items found.front standing
 front_of items found last standing seen place kept = record {

@@ -13,6 +13,7 @@ use Rattle.doc_elements.specs.Elements.{AllSpelled, Item, Items, Spelled, all_pi
 use Rattle.ltfs_label.specs.Values.{LabelValue, set_leaf}
 use Rattle.ltfs_label.specs.Reading.{set, value_from}
 
+-- a label's value by pieces is that by the first, and then by the others
 pub joined : (v : LabelValue) (ps qs : List Piece) → value_from v (ps ++ qs) ≡ value_from (value_from v ps) qs
 joined v [] qs = refl
 joined v (p ∷ ps) qs = joined (set p v) ps qs
@@ -30,6 +31,7 @@ module _ (P : LabelValue → Type 0) (text : List ℕ) (leaf_keeps : LeavesKeep 
     one_keeps p at (nested q is) next v (start, starts, unclosed, end, children, ended) good =
         subst P (sym (joined v (all_pieces is) (closes ∷ []))) (all_keep q [] start.next is end v children good)
 
+    -- what each leaf keeps true of a label's value, all elements keep true
     pub all_keep : (p : Container) (seen : List Tag) (at : ℕ) (is : Items) (end : ℕ) (v : LabelValue) → AllSpelled text p seen at is end → P v → P (value_from v (all_pieces is))
     all_keep p seen at no_items end v spelled good = good
     all_keep p seen at (item i is) end v (new, next, one, more) good =

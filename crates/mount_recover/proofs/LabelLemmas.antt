@@ -74,6 +74,7 @@ pub where_ok : {T E : Type 0} (r : Result T E) (A : Cartridge → Type 0) (P : T
 where_ok (Ok x) A P c holds at = holds c at
 where_ok (Err e) A P c holds at = tt
 
+-- what a refusal says of each cartridge of a kind, it says of this one
 pub where_err : {T E : Type 0} (r : Result T E) (A : Cartridge → Type 0) (P : E → Cartridge → Type 0) (c : Cartridge) → IfErr r (λ e. (c : Cartridge) → A c → P e c) → A c → IfErr r (λ e. P e c)
 where_err (Ok x) A P c holds at = tt
 where_err (Err e) A P c holds at = holds c at

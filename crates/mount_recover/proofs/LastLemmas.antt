@@ -32,12 +32,14 @@ use Rattle.mount_recover.proofs.ScanLemmas.{none_left, parted}
 
 -- ---- what is read of an index that stands there
 
+-- an index read at a place, with the label's UUID, is that of the volume there
 pub of_volume_at : (label : Label) (items : List Item) (place : Construct) (document : List ℕ) (index : Index)
     → IsTrueAt items place (λ k. document ≡ text_of k) → IndexText document index → index.uuid ≡ label.uuid
     → IsTrueAt items place (λ k. IsOfVolume label k index)
 of_volume_at label items place document index read text uuid = λ newer k older are same.
     record { text = subst (λ (t : List ℕ). IndexText t index) (read newer k older are same) text; uuid = uuid }
 
+-- a document that is no index of the volume is none at its place
 pub no_text_at : (items : List Item) (place : Construct) (document : List ℕ) (uuid : ℕ) (at : Place) (e : MountErr)
     → IsTrueAt items place (λ k. document ≡ text_of k) → IsBadText document uuid at e → IsTrueAt items place (λ k. IsNoText (text_of k) uuid at e)
 no_text_at items place document uuid at e read bad = λ newer k older are same.
@@ -47,6 +49,7 @@ no_text_at items place document uuid at e read bad = λ newer k older are same.
     none text (errors.Drive counts) bad = tt
     none text e bad = bad
 
+-- a failed drive or want of memory tells nothing of the document at a place
 pub free_at : (items : List Item) (place : Construct) (uuid : ℕ) (at : Place) (e : MountErr) (c : Cartridge) → IsFree e c
     → IsTrueAt items place (λ k. IsNoText (text_of k) uuid at e)
 free_at items place uuid at (errors.Drive counts) c free = λ newer k older are same. tt
@@ -58,6 +61,7 @@ free_at items place uuid at e c free = absurd free
 newest_is : (k : readings.Construct) (older : List readings.Construct) (place : Construct) → newest (k ∷ older) ≡ Some place → places_of k ≡ place
 newest_is k older place is = cc
 
+-- where the newest index stands, an index stands
 pub newest_there : (items : List Item) (place : Construct) → IsNewest items place → HasIndexAt items place
 newest_there items place known = there (indexes_of items) refl known.stands
   where
@@ -75,6 +79,7 @@ of_newest_there Says Is items place known says is = of (indexes_of items) refl k
     of [] are at = absurd (cc at)
     of (k ∷ older) are at = is k older (says [] k older are (newest_is k older place at))
 
+-- the document read where the newest index stands is that index's
 pub newest_document : (items : List Item) (place : Construct) (document : List ℕ) → IsNewest items place
     → IsTrueAt items place (λ k. document ≡ text_of k) → IsDocument document (indexes_of items)
 newest_document items place document known read =
@@ -91,11 +96,13 @@ newest_bad items place uuid at e known none =
 
 -- ---- what a document tells of the newest index
 
+-- an index read of the newest document, with the label's UUID, is of the volume
 pub of_newest : (label : Label) (ks : List readings.Construct) (document : List ℕ) (index : Index) → IsDocument document ks
     → IndexText document index → index.uuid ≡ label.uuid → IsOfNewest label index ks
 of_newest label [] document index is text uuid = is
 of_newest label (k ∷ older) document index is text uuid = record { text = subst (λ (t : List ℕ). IndexText t index) is text; uuid = uuid }
 
+-- a document that is no index of the volume is the newest one's fault
 pub bad_newest : (ks : List readings.Construct) (document : List ℕ) (uuid : ℕ) (place : Place) (e : MountErr) → IsDocument document ks
     → IsBadText document uuid place e → IsBadNewest ks uuid place e
 bad_newest [] document uuid place e is bad = absurd is
@@ -103,6 +110,7 @@ bad_newest (k ∷ older) document uuid place (errors.Drive counts) is bad = tt
 bad_newest (k ∷ older) document uuid place errors.NoMemory is bad = tt
 bad_newest (k ∷ older) document uuid place e is bad = subst (λ (t : List ℕ). IsBadText t uuid place e) is bad
 
+-- a document that is no index tells no counts of a failed drive
 pub bad_counts : (text : List ℕ) (uuid : ℕ) (place : Place) (e : MountErr) (before now : ℕ) → IsBadText text uuid place e → AreCounts before now e
 bad_counts text uuid place (errors.Drive counts) before now bad = absurd bad
 bad_counts text uuid place errors.NoMemory before now bad = tt
@@ -167,6 +175,7 @@ module _ (c : Cartridge) (labels : Labels) (forms : HasForms c labels) (part : P
 -- ---- the data partition
 
 module _ (c : Cartridge) (labels : Labels) (place : Construct) (older : List Construct) (known : IsKnownDp labels place older c) where
+  -- a bad document of the data partition's last index is what the cartridge lacks
   pub blamed_dp : (e : MountErr) → IsTrueAt c.dp place (λ k. IsNoText (text_of k) labels.ip.uuid (record { part = Dp; pos = place.first }) e)
       → Blames e c
   blamed_dp e none =
@@ -177,6 +186,7 @@ module _ (c : Cartridge) (labels : Labels) (place : Construct) (older : List Con
     of_last : IsOfVolume labels.ip known.parted.last index
     of_last = of [] known.parted.last known.parted.before known.parted.parts (sym known.parted.place_is)
 
+    -- an index with right pointers is the last one of the data partition
     pub right_dp : ((k : readings.Construct) (ks : List readings.Construct) → place.first ≡ first_of k → older ≡ map places_of (reverse ks)
         → PointsOnDp labels.ip k ks index) → IsLastDp labels.ip (Some (record { index = index; place = place })) c
     right_dp points = record {
@@ -186,6 +196,7 @@ module _ (c : Cartridge) (labels : Labels) (place : Construct) (older : List Con
       place = sym known.newest.stands;
     }
 
+    -- an index of the data partition with wrong pointers is blamed for them
     pub wrong_dp : ((k : readings.Construct) (ks : List readings.Construct) → place.first ≡ first_of k → older ≡ map places_of (reverse ks)
         → ¬ PointsOnDp labels.ip k ks index) → Blames (errors.WrongPointer (record { part = Dp; pos = place.first })) c
     wrong_dp wrong =
@@ -196,6 +207,7 @@ module _ (c : Cartridge) (labels : Labels) (place : Construct) (older : List Con
 
 module _ (c : Cartridge) (labels : Labels) (place : Construct) (dps : List Construct) (on_dp : Option Index)
     (known : IsKnownIp labels place dps on_dp c) where
+  -- a bad document of the index partition's last index is what the cartridge lacks
   pub blamed_ip : (e : MountErr) → IsBadNewest (indexes_of c.ip) labels.ip.uuid (record { part = Ip; pos = place.first }) e → Blames e c
   blamed_ip e bad = blamed c labels known.forms Ip place on_dp (λ is. known.dp_last) known.newest.stands e bad
 
@@ -206,6 +218,7 @@ module _ (c : Cartridge) (labels : Labels) (place : Construct) (dps : List Const
         let same : places_of k ≡ place = cc both in
         sym (ap (λ (p : Construct). p.first) same)
 
+    -- an index with right pointers is the last one of the index partition
     pub right_ip : ((k : readings.Construct) → place.first ≡ first_of k → PointsOnIp labels.ip k (indexes_of c.dp) on_dp index)
         → IsLastIp labels.ip on_dp (Some (record { index = index; place = place })) c
     right_ip points = record { index = last_is (indexes_of c.ip) refl of known.newest.stands; place = sym known.newest.stands }
@@ -215,6 +228,7 @@ module _ (c : Cartridge) (labels : Labels) (place : Construct) (dps : List Const
         last_is [] are of stands = absurd of
         last_is (k ∷ older) are of stands = (index, refl, of, points k (first_ip k older are))
 
+    -- an index of the index partition with wrong pointers is blamed for them
     pub wrong_ip : ((k : readings.Construct) → place.first ≡ first_of k → ¬ PointsOnIp labels.ip k (indexes_of c.dp) on_dp index)
         → Blames (errors.WrongPointer (record { part = Ip; pos = place.first })) c
     wrong_ip wrong = blame (indexes_of c.ip) refl of
@@ -226,12 +240,14 @@ module _ (c : Cartridge) (labels : Labels) (place : Construct) (dps : List Const
 
 -- ---- both
 
+-- the last index of each partition makes up the last ones of the cartridge
 pub are_lasts : (label : Label) (dp : Option LastIndex) (lasts : Lasts) (c : Cartridge) → IsLastDp label dp c → AreLastsWith label dp lasts c → AreLasts label lasts c
 are_lasts label dp lasts c last is = record {
   dp = subst (λ (o : Option LastIndex). IsLastDp label o c) (sym is.dp_is) last;
   ip = subst (λ (o : Option LastIndex). IsLastIp label (index_in o) (ip_in lasts) c) (sym is.dp_is) is.ip;
 }
 
+-- the last indexes are sound where that of each partition is
 pub are_sound : (label : Label) (limits : Limits) (dp : Option LastIndex) (lasts : Lasts) → IfSome dp (IsSoundLast label limits.cap_dp)
     → AreSoundWith label limits.cap_ip dp lasts → AreSoundLasts label limits lasts
 are_sound label limits dp lasts last is =
@@ -239,6 +255,7 @@ are_sound label limits dp lasts last is =
 
 -- ---- what a scan makes known
 
+-- both partitions of a scanned cartridge have the form
 pub forms_of : (c : Cartridge) (labels : Labels) (s : Scans) → IsScan labels s c → HasForms c labels
 forms_of c labels s scan = record { has = scan.has; ip = scan.ip.form; dp = scan.dp.form }
 
@@ -250,11 +267,13 @@ newest_of items found older place seen split =
       record { last = p.0; before = p.1; parts = p.2; place_is = p.3; older_are = p.4 },
     )
 
+-- what a scan tells of the data partition's last index
 pub known_dp : (c : Cartridge) (labels : Labels) (s : Scans) (older : List Construct) (place : Construct) → IsScan labels s c → s.dp.constructs ≡ older ++ place ∷ []
     → IsKnownDp labels place older c
 known_dp c labels s older place scan split =
     let n = newest_of c.dp s.dp older place scan.dp split in record { forms = forms_of c labels s scan; newest = n.0; parted = n.1 }
 
+-- what a scan tells of the index partition's last index
 pub known_ip : (c : Cartridge) (labels : Labels) (s : Scans) (on_dp : Option LastIndex) (older : List Construct) (place : Construct) → IsScan labels s c
     → IsLastDp labels.ip on_dp c → s.ip.constructs ≡ older ++ place ∷ [] → IsKnownIp labels place s.dp.constructs (index_in on_dp) c
 known_ip c labels s on_dp older place scan dp split =
@@ -280,6 +299,7 @@ last_between [] place from to capacity low high b =
 last_between (k ∷ older) place from to capacity low high b =
     last_between older place k.after to capacity (omega (arith, low, b.0, b.1, b.2)) high b.3
 
+-- the last index that a scan tells stands within the capacity
 pub last_in_place : (capacity : ℕ) (found : Content) (older : List Construct) (place : Construct) → IsInPlaces capacity found → found.constructs ≡ older ++ place ∷ []
     → IsInPlace capacity place
 last_in_place capacity found older place places split =

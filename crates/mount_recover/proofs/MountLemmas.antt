@@ -71,6 +71,7 @@ block_of : (l : LastIndex) (ks : List readings.Construct) → place_in (Some l) 
 block_of l [] is = absurd (cc is)
 block_of l (k ∷ older) is = ap (λ (p : Construct). Some p.first) (sym (place_is l k older is))
 
+-- the newest place on the data partition is where its last index begins
 pub spot_of : (label : Label) (l : LastIndex) (ks : List readings.Construct) → place_in (Some l) ≡ newest ks
     → newest_spot label ks ≡ Some (record { letter = label.dpart; block = l.place.first })
 spot_of label l [] is = absurd (cc is)
@@ -263,6 +264,7 @@ module _ (c : Cartridge) (labels : Labels) (lasts : Lasts) (choice : Choice) (d 
       λ n. record { on_ip = noted_ip.1 n.ip; on_dp = noted_dp.1 n.dp },
     )
 
+    -- a choice that is decided, with its flags, is a mount of the cartridge
     pub mounts : (m : Mounted) → IsMountedAs labels.ip choice flags m → Mounts c m
     mounts m made = record {
       found = found;
@@ -298,11 +300,13 @@ fault_blames c (errors.Drive counts) fault = tt
 fault_blames c errors.NoMemory fault = tt
 fault_blames c e fault = fault
 
+-- a failed drive or want of memory blames nothing of a cartridge
 pub free_blames : (c : Cartridge) (e : MountErr) → IsFree e c → Blames e c
 free_blames c (errors.Drive counts) free = tt
 free_blames c errors.NoMemory free = tt
 free_blames c e free = absurd free
 
+-- reading the labels is one step of a mount
 pub labels_step : {D : Type 0} (drive : Ghosts D) (start : Start) (a b : D) (r : Result Labels MountErr) → IsSince drive start a
     → IfOk r (λ l. (c : Cartridge) → drive.held a ≡ Some c → HasLabels c l) → IfErr r (λ e. (c : Cartridge) → drive.held a ≡ Some c → Fails c e)
     → IfOk r AreLabels → HasCounts start.faults (drive.faults b) r → Looks drive (12 * drive.MOST) a b
@@ -321,6 +325,7 @@ labels_step drive start a b r since found refused any counts looks = record {
     blames (Ok l) fails = tt
     blames (Err e) fails = λ c h. fails_blames c e (fails c h)
 
+-- labels that are there and scans of both partitions are a scan of the cartridge
 pub scan_of : (c : Cartridge) (labels : Labels) (s : Scans) → HasLabels c labels → AreScanned s c → IsScan labels s c
 scan_of c labels s has are = record {
   has = has;
@@ -338,6 +343,7 @@ mounts_by_notes c labels choice flags m is ip dp noted made =
 pub still_told : (P : Cartridge → Type 0) (a b : Option Cartridge) → b ≡ a → IfSome a P → IfSome b P
 still_told P a b same told = subst (λ (o : Option Cartridge). IfSome o P) (sym same) told
 
+-- a sound choice with proper labels makes a sound mount
 pub sound_mount : (limits : Limits) (labels : Labels) (choice : Choice) (flags : Flags) (m : Mounted) → AreLabels labels
     → IsSoundChoice labels.ip limits choice → IsMountedAs labels.ip choice flags m → IsSoundMount limits m
 sound_mount limits labels choice flags m are sound made = record {

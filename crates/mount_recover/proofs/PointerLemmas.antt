@@ -12,6 +12,7 @@ use Rattle.std.proofs.lemmas.Option.{get_or_from_slice_get, slice_get_within}
 use Rattle.mount_recover.specs.Lasts.{HasFirst, generation_in}
 use Rattle.mount_recover.proofs.ScanLemmas.{last_first}
 
+-- no index begins at a block that was compared with each of them
 pub nowhere : (places : List Construct) (block n : ℕ) → ((k : ℕ) (d : Construct) → k < n → (get_or places k d).first ≢ block) → length places ≡ n → HasFirst places block → ⊥
 nowhere places block n none len h =
     none h.at h.place (subst (λ (m : ℕ). h.at < m) len (slice_get_within places h.at h.place h.stands))
@@ -54,6 +55,7 @@ spot_parts a b c d e = (ap letter_in e, ap block_in e)
     block_in None = 0
     block_in (Some s) = s.block
 
+-- no pointer names no index
 pub none_named : (label : Label) (ks : List readings.Construct) → NamesOneOf label None ks → ⊥
 none_named label [] names = names
 none_named label (k ∷ older) (inl e) = cc e
@@ -79,6 +81,7 @@ there_named label spot (k ∷ older) letter h =
     (λ (e : k.mark + 1 ≡ spot.block). inl (λ i. Some (record { letter = letter i; block = sym e i })))
     (front_or_end (map places_of (reverse older)) (places_of k) spot.block t.at t.place t.stands t.first)
 
+-- a pointer names an index just where one begins at its block, on its partition
 pub names : (label : Label) (spot : Spot) (ks : List readings.Construct) (places : List Construct) → places ≡ map places_of (reverse ks)
     → ((spot.letter ≡ label.dpart) × HasFirst places spot.block) ↔ NamesOneOf label (Some spot) ks
 names label spot ks places are = (
@@ -89,6 +92,7 @@ names label spot ks places are = (
 -- ---- where an index of the index partition points back to, by the generation of the data partition's last one
 
 module _ (label : Label) (index : Index) (ks : List readings.Construct) (r : Bool) where
+  -- where the data partition has no index, there must be no pointer back
   pub back_none : (dp : Option Index) → None ≡ generation_in dp → IsTrue r ↔ (index.back ≡ None) → IsTrue r ↔ PointsBack label index ks dp
   back_none None is same = same
   back_none (Some d) is same = absurd (cc is)
@@ -97,6 +101,7 @@ module _ (label : Label) (index : Index) (ks : List readings.Construct) (r : Boo
   Back n =
       ((n ≤ index.generation) × (index.back ≡ newest_spot label ks)) ⊎ ((index.generation < n) × NamesOneOf label index.back ks)
 
+  -- where the data partition has an index, the pointer back is judged by its generation
   pub back_some : (n : ℕ) (dp : Option Index) → Some n ≡ generation_in dp → IsTrue r ↔ Back n → IsTrue r ↔ PointsBack label index ks dp
   back_some n None is same = absurd (cc is)
   back_some n (Some d) is same = let told : n ≡ d.generation = cc is in subst (λ (m : ℕ). IsTrue r ↔ Back m) told same

@@ -22,30 +22,35 @@ use Rattle.ltfs_label.specs.declared.errors.LabelErr.{LabelErr}
 use Rattle.cartridge_meaning.specs.Labels.{HasLabel, HasSomeLabel, HasSomeRecord, IsMarkedBlock}
 use Rattle.mount_recover.specs.Labels.{IsSpelled, is_block, is_mark, is_no_memory}
 
+-- a read that found a block tells the block that stands there
 pub block_is : (x : Option Item) (answer : Got) (buf : List ℕ) → IsRead x answer buf → is_block answer ≡ true → x ≡ Some (Block buf)
 block_is None answer buf r e = absurd (let bad : false ≡ true = sym (ap is_block r.0) ∙ e in cc bad)
 block_is (Some (Block bytes)) answer buf r e = ap (λ (b : List ℕ). Some (Block b)) (sym r.1)
 block_is (Some Mark) answer buf r e = absurd (let bad : false ≡ true = sym (ap is_block r.0) ∙ e in cc bad)
 block_is (Some Torn) answer buf r e = absurd (let bad : false ≡ true = sym (ap is_block r.0) ∙ e in cc bad)
 
+-- a read that found no block tells that none stands there
 pub no_block : (x : Option Item) (answer : Got) (buf bytes : List ℕ) → IsRead x answer buf → is_block answer ≡ false → x ≡ Some (Block bytes) → ⊥
 no_block None answer buf bytes r e is = cc is
 no_block (Some (Block held)) answer buf bytes r e is = let bad : true ≡ false = sym (ap is_block r.0) ∙ e in cc bad
 no_block (Some Mark) answer buf bytes r e is = cc is
 no_block (Some Torn) answer buf bytes r e is = cc is
 
+-- a read that found a mark tells that one stands there
 pub mark_is : (x : Option Item) (answer : Got) (buf : List ℕ) → IsRead x answer buf → is_mark answer ≡ true → x ≡ Some Mark
 mark_is None answer buf r e = absurd (let bad : false ≡ true = sym (ap is_mark r.0) ∙ e in cc bad)
 mark_is (Some (Block bytes)) answer buf r e = absurd (let bad : false ≡ true = sym (ap is_mark r.0) ∙ e in cc bad)
 mark_is (Some Mark) answer buf r e = refl
 mark_is (Some Torn) answer buf r e = absurd (let bad : false ≡ true = sym (ap is_mark r.0) ∙ e in cc bad)
 
+-- a read that found no mark tells that none stands there
 pub no_mark : (x : Option Item) (answer : Got) (buf : List ℕ) → IsRead x answer buf → is_mark answer ≡ false → x ≡ Some Mark → ⊥
 no_mark None answer buf r e is = cc is
 no_mark (Some (Block held)) answer buf r e is = cc is
 no_mark (Some Mark) answer buf r e is = let bad : true ≡ false = sym (ap is_mark r.0) ∙ e in cc bad
 no_mark (Some Torn) answer buf r e is = cc is
 
+-- a read that found a block leaves the head at the next position
 pub after_block : (answer : Got) (at : Place) → is_block answer ≡ true → after_read answer at ≡ next at
 after_block got.Block at e = refl
 after_block got.Mark at e = refl
@@ -61,9 +66,11 @@ both_told (Ok true) before now head place buf stays at first second = λ c h. re
 both_told (Ok false) before now head place buf stays at first second = λ c h bytes m. second (next place) c at (stays c h) m.mark
 both_told (Err e) before now head place buf stays at first second = tt
 
+-- at a position stands one block
 pub same_block : (items : List Item) (pos : ℕ) (a b : List ℕ) → slice_get items pos ≡ Some (Block a) → slice_get items pos ≡ Some (Block b) → a ≡ b
 same_block items pos a b x y = let both : ◌≡◌ {A = Option Item} (Some (Block a)) (Some (Block b)) = sym x ∙ y in cc
 
+-- a partition whose first block is no record has none
 pub no_record : (items : List Item) (buf : List ℕ) → IsMarkedBlock items 0 buf → ((v : Vol1) → IsRecord buf v → ⊥) → HasSomeRecord items → ⊥
 no_record items buf m none (v, h) = none v (subst (λ (b : List ℕ). IsRecord b v) (same_block items 0 h.bytes buf h.stands.block m.block) h.spelled)
 
@@ -74,11 +81,13 @@ no_label items buf m none (v, h) = none v (subst (λ (b : List ℕ). LabelText b
 pub not_given : (e : LabelErr) (v : LabelValue) → is_no_memory e ≡ false → IsReadOr (Err e) v → ⊥
 not_given e v other g = let bad : true ≡ false = sym (ap is_no_memory g) ∙ other in cc
 
+-- what the second block says as a label is the partition's label, or there is none
 pub label_found : (items : List Item) (buf : List ℕ) (found : Option Label) → IsMarkedBlock items 2 buf
     → MatchOption found ((v : LabelValue) → LabelText buf v → ⊥) (λ label. LabelText buf (label_of label)) → MatchOption found (¬ HasSomeLabel items) (λ label. HasLabel items (label_of label))
 label_found items buf None m text = no_label items buf m text
 label_found items buf (Some label) m text = record { bytes = buf; stands = m; spelled = text }
 
+-- a label that was read is that of some text
 pub spelled_found : (buf : List ℕ) (found : Option Label)
     → MatchOption found ((v : LabelValue) → LabelText buf v → ⊥) (λ label. LabelText buf (label_of label)) → IfSome found IsSpelled
 spelled_found buf None text = tt

@@ -74,16 +74,19 @@ labels_in_front items v l record_is label_is =
     (front_more two (Block label_is.bytes) 1 (tail_get one 0 ∙ tail_get items 1 ∙ label_is.stands.block) (λ e. cc e)
     (front_more three Mark 0 (tail_get two 0 ∙ tail_get one 1 ∙ tail_get items 2 ∙ label_is.stands.mark) (λ e. cc e) (omega arith))))
 
+-- a partition with a label has four items in its front
 pub long_front : (part : Part) (c : Cartridge) → HasSomeLabels c → 4 ≤ length (front (items_of part c))
 long_front Ip c h = labels_in_front c.ip h.0.ip_record (label_of h.0.ip) h.1.ip_record h.1.ip
 long_front Dp c h = labels_in_front c.dp h.0.dp_record (label_of h.0.dp) h.1.dp_record h.1.dp
 
+-- where the drive tells a cartridge with labels, each front has four items
 pub long_fronts : (part : Part) (o : Option Cartridge) → IfSome o HasSomeLabels → IfSome o (λ c. 4 ≤ length (front (items_of part c)))
 long_fronts part None h = tt
 long_fronts part (Some c) h = long_front part c h
 
 -- ---- which check fails
 
+-- an index partition without the form is what the cartridge lacks
 pub blames_ip : (c : Cartridge) → HasSomeLabels c → (e : MountErr) → LacksLayout Ip e c → Blames e c
 blames_ip c h (errors.Drive counts) lacks = tt
 blames_ip c h errors.NoMemory lacks = tt
@@ -91,6 +94,7 @@ blames_ip c h (errors.Layout place) lacks =
     record { labels = h.0; has = h.1; lacks = subst (λ (p : Part). LacksFormOn p c place.pos) (sym lacks.0) lacks.1 }
 blames_ip c h e lacks = absurd lacks
 
+-- a data partition without the form, the other having it, is what the cartridge lacks
 pub blames_dp : (c : Cartridge) → HasSomeLabels c → HasForm c.ip → (e : MountErr) → LacksLayout Dp e c → Blames e c
 blames_dp c h form (errors.Drive counts) lacks = tt
 blames_dp c h form errors.NoMemory lacks = tt
@@ -122,6 +126,7 @@ seen items found long told =
       front = told.front;
     }
 
+-- the newest index is the last one that a scan tells
 pub last_first : (k : readings.Construct) (older : List readings.Construct)
     → map places_of (reverse (k ∷ older)) ≡ map places_of (reverse older) ++ places_of k ∷ []
 last_first k older =
@@ -159,6 +164,7 @@ parted (k ∷ older) places rest place are parts =
         let tails : xs ++ x ∷ [] ≡ ys ++ y ∷ [] = cc in
         let same = snoc_same xs ys x y tails in ((λ i. heads i ∷ same.0 i), same.1)
 
+-- where a scan tells no index, there is none
 pub none_left : (ks : List readings.Construct) (places : List Construct) → places ≡ map places_of (reverse ks) → length places ≡ 0 → ks ≡ []
 none_left [] places are none = refl
 none_left (k ∷ older) places are none =

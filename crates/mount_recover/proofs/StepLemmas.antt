@@ -26,6 +26,7 @@ times_sum : (m n k : ℕ) → m * k + n * k ≡ (m + n) * k
 times_sum m n k = omega arith
 
 module _ {D : Type 0} (drive : Ghosts D) (start : Start) where
+  -- with commands that only look, all since the start of a mount has only looked
   pub since_next : (most : ℕ) (a b : D) → IsSince drive start a → Looks drive most a b → start.faults ≤ drive.faults b → IsSince drive start b
   since_next most a b since looks later = record {
     faults = later;
@@ -40,6 +41,7 @@ module _ {D : Type 0} (drive : Ghosts D) (start : Start) where
       subst (λ (most : ℕ). Looks drive most a d) (times_sum m n drive.MOST)
       (then_looks drive (m * drive.MOST) (n * drive.MOST) a b d first second)
 
+  -- what looks with reads of so many items looks with more at most
   pub looks_more : (m n : ℕ) (a b : D) → m ≤ n → Looks drive (m * drive.MOST) a b → Looks drive (n * drive.MOST) a b
   looks_more m n a b le looks = more_looks drive (m * drive.MOST) (n * drive.MOST) a b (mul-le m drive.MOST n drive.MOST le (omega arith)) looks
 
@@ -122,6 +124,7 @@ module _ {D : Type 0} (drive : Ghosts D) (start : Start) where
     since = step.since;
   }
 
+  -- two steps that succeeded, one after the other, are one that did
   pub both_after : {T U W : Type 0} {m n : ℕ} {a b d : D} {F : T → Cartridge → Type 0} {A : T → Type 0} {R S V : MountErr → Cartridge → Type 0}
       {G : U → Cartridge → Type 0} {B : U → Type 0} {H : W → Cartridge → Type 0} {C : W → Type 0} {x : T} {y : U} {z : W}
       → IsStep drive start m a b F A R (Ok x) → IsStep drive start n b d G B S (Ok y)
@@ -135,6 +138,7 @@ module _ {D : Type 0} (drive : Ghosts D) (start : Start) where
     since = second.since;
   }
 
+  -- a refusal after a step that succeeded is one of both steps
   pub refused_after : {T U : Type 0} {m : ℕ} {a b : D} {F : T → Cartridge → Type 0} {A : T → Type 0} {R V : MountErr → Cartridge → Type 0}
       {H : U → Cartridge → Type 0} {C : U → Type 0} {x : T} {e : MountErr} → IsStep drive start m a b F A R (Ok x) → AreCounts start.faults (drive.faults b) e
       → ((c : Cartridge) → drive.held a ≡ Some c → F x c → V e c) → IsStep drive start m a b H C V (Err e)
@@ -297,10 +301,12 @@ module _ {D : Type 0} (drive : Ghosts D) (start : Start) where
 pub at_told : (P : Cartridge → Type 0) {o : Option Cartridge} {c : Cartridge} → o ≡ Some c → IfSome o P → P c
 at_told P is holds = subst (λ (o : Option Cartridge). IfSome o P) is holds
 
+-- what follows from what is told of a cartridge is told of it
 pub told_then : {P Q : Cartridge → Type 0} (o : Option Cartridge) → IfSome o P → ((c : Cartridge) → P c → Q c) → IfSome o Q
 told_then None holds next = tt
 told_then (Some c) holds next = next c holds
 
+-- what follows from two things told of a cartridge is told of it
 pub both_told : {P Q R : Cartridge → Type 0} (o : Option Cartridge) → IfSome o P → IfSome o Q → ((c : Cartridge) → P c → Q c → R c) → IfSome o R
 both_told None first second next = tt
 both_told (Some c) first second next = next c first second

@@ -61,12 +61,14 @@ module _ (labels : Labels) (limits : Limits) (place : Construct) (dp : LastIndex
   valid : IsValid (twin_of dp.index twin)
   valid = valid_twin dp.index twin sound.index.valid here back
 
+  -- an index like the data partition's last one, with its own pointers, is sound
   pub sound_twin : IsSoundLast labels.ip limits.cap_ip (record { index = twin_of dp.index twin; place = twin.place })
   sound_twin = record {
     index = record { valid = valid; uuid = sound.index.uuid };
     place = subst (IsInPlace limits.cap_ip) (sym at.place_is) in_place;
   }
 
+  -- an index like the data partition's last one is the index partition's last
   pub right_twin : (c : Cartridge) (dps : List Construct) → IsKnownIp labels place dps (Some dp.index) c → IsLastDp labels.ip (Some dp) c
       → (document : List ℕ) → IsDocument document (indexes_of c.ip) → IndexText document (twin_of dp.index twin)
       → IsLastIp labels.ip (Some dp.index) (Some (record { index = twin_of dp.index twin; place = twin.place })) c

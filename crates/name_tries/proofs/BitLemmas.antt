@@ -15,15 +15,19 @@ in_bytes xs fits i b is =
     omega (arith, f)
 
 module _ (p : ℕ) where
+  -- a name is alike to itself
   pub alike_self : (x : Name) → AreAlike p x x
   alike_self x b w nine lt = refl
 
+  -- names that are alike are so either way round
   pub alike_back : (x y : Name) → AreAlike p x y → AreAlike p y x
   alike_back x y alike b w nine lt = sym (alike b w nine lt)
 
+  -- names alike to a common one are alike
   pub alike_on : (x y z : Name) → AreAlike p x y → AreAlike p y z → AreAlike p x z
   alike_on x y z one other b w nine lt = one b w nine lt ∙ other b w nine lt
 
+  -- names alike up to a level are so up to an earlier one
   pub alike_below : (q : ℕ) (x y : Name) → p ≤ q → AreAlike q x y → AreAlike p x y
   alike_below q x y le alike b w nine lt = alike b w nine (omega arith)
 
@@ -42,6 +46,7 @@ same_half x y k half rest =
     let other : y / 2 ^ k / 2 ≡ y / 2 ^ (k + 1) = shr-shr y k 1 in
     omega (arith, one, other, half, rest)
 
+-- a bit of a byte that is there, other than the first
 pub bit_some : (b w : ℕ) → w ≢ 0 → bit_in (Some b) w ≡ (b / 2 ^ (8 - w) % 2 == 1)
 bit_some b w apart = let fails : (w == 0) ≡ false = grind (arith, nat_tests, apart) in ap (λ v. v || (b / 2 ^ (8 - w) % 2 == 1)) fails
 
@@ -57,6 +62,7 @@ high b (suc (suc (suc (suc (suc (suc zero)))))) lt = omega arith
 high b (suc (suc (suc (suc (suc (suc (suc zero))))))) lt = omega arith
 high b (suc (suc (suc (suc (suc (suc (suc (suc k)))))))) lt = let no : ⊥ = omega (arith, lt) in absurd no
 
+-- the bits of a byte with a leading one are those of a name's byte
 pub shifted_bit : (b w : ℕ) → b < 256 → w < 9 → ((256 + b) / 2 ^ (8 - w) % 2 == 1) ≡ bit_in (Some b) w
 shifted_bit b zero byte nine = let one : (256 + b) / 2 ^ 8 % 2 ≡ 1 = omega (arith, byte) in ap (λ (n : ℕ). n == 1) one
 shifted_bit b (suc w) byte nine =
@@ -73,6 +79,7 @@ module _ (a b most : ℕ) (a_nine : a < 512) (b_nine : b < 512) (same : (w : ℕ
       let w_is : 8 - j ≡ k = omega arith in
       same_rest (a / 2 ^ k) (b / 2 ^ k) (subst (λ (n : ℕ). (a / 2 ^ n % 2 == 1) ≡ (b / 2 ^ n % 2 == 1)) w_is (same j lt))
 
+  -- bytes that agree in their upper bits are the same when the lower ones are cut off
   pub same_above : (k j : ℕ) → k + j ≡ 8 → j < most → a / 2 ^ k ≡ b / 2 ^ k
   same_above k zero is lt = let k_is : k ≡ 8 = omega arith in subst (λ (n : ℕ). a / 2 ^ n ≡ b / 2 ^ n) (sym k_is) first
     where
@@ -85,6 +92,7 @@ module _ (x y most : ℕ) (x_byte : x < 256) (y_byte : y < 256) (same : (w : ℕ
   same_of_eight zero lt = let none : x / 2 ^ 8 ≡ y / 2 ^ 8 = omega (arith, x_byte, y_byte) in ap (λ (n : ℕ). n % 2 == 1) none
   same_of_eight (suc w) lt = sym (bit_some x (suc w) (omega arith)) ∙ same (suc w) lt ∙ bit_some y (suc w) (omega arith)
 
+  -- bytes of names that agree in upper bits are the same without the lower ones
   pub same_upper : (k j : ℕ) → k + j ≡ 8 → j < most → x / 2 ^ k ≡ y / 2 ^ k
   same_upper k j is lt = same_above x y most (omega (arith, x_byte)) (omega (arith, y_byte)) same_of_eight k j is lt
 

@@ -41,6 +41,7 @@ first_is (Some (branch.Inner g)) f is = ap (λ i. Some (branch.Inner i)) (some_s
 
 -- a root leads to a trie, where there is one
 module _ (tries : Tries) (keys : Keys) (w : AreTries tries keys) (dir : ℕ) where
+  -- a directory with a trie has a root from which that trie hangs
   pub root_is : (t : Trie) (root : Option Branch) → w.shape dir ≡ Some t → slice_get tries.roots.items dir ≡ Some root
       → (at : Branch) × (root ≡ Some at) × IsAt tries.forks.items at t
   root_is t root is there =
@@ -52,6 +53,7 @@ module _ (tries : Tries) (keys : Keys) (w : AreTries tries keys) (dir : ℕ) whe
       let r = root_is t (Some at) is there in
       subst (λ (b : Branch). IsAt tries.forks.items b t) (sym (some_same at r.0 r.1)) r.2
 
+  -- a directory with a root has a trie that hangs from it
   pub trie_at : (at : Branch) → slice_get tries.roots.items dir ≡ Some (Some at) → (t : Trie) × (w.shape dir ≡ Some t) × IsAt tries.forks.items at t
   trie_at at there = by (w.shape dir) refl
     where
@@ -61,6 +63,7 @@ module _ (tries : Tries) (keys : Keys) (w : AreTries tries keys) (dir : ℕ) whe
           absurd (none_not None at refl (sym wrong))
       by (Some t) is = (t, is, root_at t at is there)
 
+  -- a directory without a root has no trie
   pub no_trie : slice_get tries.roots.items dir ≡ Some None → w.shape dir ≡ None
   no_trie there = by (w.shape dir) refl
     where
@@ -68,6 +71,7 @@ module _ (tries : Tries) (keys : Keys) (w : AreTries tries keys) (dir : ℕ) whe
       by None is = is
       by (Some t) is = let r = root_is t None is there in absurd (none_not None r.0 refl r.1)
 
+  -- a directory with a trie is one of those that there are
   pub dir_within : (t : Trie) → w.shape dir ≡ Some t → dir < length tries.roots.items
   dir_within t is = let n = some_leaf t in w.below n.0 dir (name_in keys n.0) ((w.tries dir t is).leaves n.0 n.1)
 
@@ -75,6 +79,7 @@ module _ (tries : Tries) (keys : Keys) (w : AreTries tries keys) (dir : ℕ) whe
   pub nearest_found : (t : Trie) (x : Name) → w.shape dir ≡ Some t → (other : Name) × (keys (nearest_in x t) ≡ Some (dir, other))
   nearest_found t x is = (name_in keys (nearest_in x t), (w.tries dir t is).leaves (nearest_in x t) (nearest_has x t))
 
+  -- a number with a name in the directory is the nearest one to that name
   pub nearest_only : (t : Trie) (x : Name) (n : ℕ) → w.shape dir ≡ Some t → keys n ≡ Some (dir, x) → nearest_in x t ≡ n
   nearest_only t x n is there =
       let was = w.every n dir x there in
@@ -83,6 +88,7 @@ module _ (tries : Tries) (keys : Keys) (w : AreTries tries keys) (dir : ℕ) whe
 
 -- ---- the root that a call reads
 
+-- a root that is read is the directory's
 pub root_read : (tries : Tries) (dir : ℕ) (r : Option Branch) (root : Branch) → dir < length tries.roots.items → r ≡ get_or tries.roots.items dir r
     → r ≡ Some root → slice_get tries.roots.items dir ≡ Some (Some root)
 root_read tries dir r root below read some = read_at tries.roots.items dir r below read ∙ ap (λ (o : Option Branch). Some o) some
@@ -139,17 +145,21 @@ module _ {tries : Tries} {keys : Keys} {w : AreTries tries keys} {dir : ℕ} {x 
   pub last_is : (s : Side) → last.side ≡ Some s → s ≡ side c.to.place (bit_of x c.to.byte c.to.within)
   last_is s is = some_same s (side c.to.place (bit_of x c.to.byte c.to.within)) (sym is ∙ ap (λ (v : Way). v.side) c.to.ends)
 
+  -- the way to a number that loses its name ends with a side of a fork
   pub some_last : last.side ≡ None → ⊥
   some_last none = none_not last.side (side c.to.place (bit_of x c.to.byte c.to.within)) none (ap (λ (v : Way). v.side) c.to.ends)
 
+  -- the fork to which a number's way leads has its place among the forks
   pub place_at : c.to.place < length tries.forks.items
   place_at = slice_get_within tries.forks.items c.to.place c.to.fork c.to.there
 
+  -- the fork above the last one of such a way has its place among the forks
   pub above_within : (s : Side) → last.above ≡ Some s → s.fork < length tries.forks.items
   above_within s is = side_within tries.forks.items (branch.Inner root) last.above c.to.steps
       (inner c.to.byte c.to.within c.to.place c.to.zero c.to.one)
       (subst (λ (u : Trie). Shows tries.forks.items (branch.Inner root) u) c.to.is c.shown) c.to.side s is
 
+  -- a number that loses its name can hand over its place for that of the last fork
   pub can_hand_over : (n : ℕ) → keys n ≡ Some (dir, x) → CanHandOver tries.owned.items tries.owners.items n c.to.place
   can_hand_over n there =
       let here : HasFork c.to.place c.trie = subst (λ (u : Trie). HasFork c.to.place u) (sym c.to.is)

@@ -122,6 +122,7 @@ module _ (roots : List (Option Branch)) (forks : List Fork) (owned owners : List
       gone n y is (inl e) = none_not (after k) (dir, y) now.here (sym (ap after e) ∙ is)
       gone n y is (inr other) = let t = w.every n dir y (sym (now.others n other) ∙ is) in other (only n t.0 t.1 t.2)
 
+  -- a number that is alone in its directory loses its name, and the directory its root
   pub cut_only : AreTriesIn (set roots dir None) forks owned owners after
   cut_only = changed roots (set roots dir None) forks forks owned owned owners owners before after dir k w None only_change
 
@@ -305,5 +306,6 @@ module _ (roots next_roots : List (Option Branch)) (forks next : List Fork) (own
         (still_paired owned next_owned owners next_owners (length forks) k to.place w.paired over owns);
   }
 
+  -- a number loses its name beside others of its directory
   pub cut_beside : AreTriesIn next_roots next next_owned next_owners after
   cut_beside = changed roots next_roots forks next owned next_owned owners next_owners before after dir k w (Some (whole_of steps part)) cut_change

@@ -4,6 +4,7 @@ use Rattle.std.proofs.lemmas.Option.{slice_get_read}
 use Rattle.name_tries.specs.Listing.{IsIn}
 
 module _ {X : Type 0} where
+  -- two things that are given as the same are one
   pub some_same : (x y : X) → ◌≡◌ {A = Option X} (Some x) (Some y) → x ≡ y
   some_same x y is = cc
 
@@ -57,15 +58,18 @@ module _ {X : Type 0} where
 
   -- ---- what a list has
 
+  -- what is in the first list is in both together
   pub in_front : (x : X) (xs ys : List X) → IsIn x xs → IsIn x (xs ++ ys)
   in_front x [] ys none = elim none [ ]
   in_front x (y ∷ xs) ys (inl same) = inl same
   in_front x (y ∷ xs) ys (inr more) = inr (in_front x xs ys more)
 
+  -- what is in the second list is in both together
   pub in_rest : (x : X) (xs ys : List X) → IsIn x ys → IsIn x (xs ++ ys)
   in_rest x [] ys more = more
   in_rest x (y ∷ xs) ys more = inr (in_rest x xs ys more)
 
+  -- what is in two lists together is in one of them
   pub in_either : (x : X) (xs ys : List X) → IsIn x (xs ++ ys) → IsIn x xs ⊎ IsIn x ys
   in_either x [] ys more = inr more
   in_either x (y ∷ xs) ys (inl same) = inl (inl same)

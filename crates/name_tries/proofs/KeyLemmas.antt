@@ -15,14 +15,17 @@ use Rattle.name_tries.proofs.ItemLemmas.{some_same, none_not, set_here, set_othe
 use Rattle.name_tries.proofs.TrieLemmas.{some_leaf, parts_same, shows_kept}
 use Rattle.name_tries.proofs.WayLemmas.{side_in, side_out, shows_set}
 
+-- equal keys are in the same directory
 pub key_same : (d e : ℕ) (x y : Name) → ◌≡◌ {A = Option (ℕ × Name)} (Some (d, x)) (Some (e, y)) → d ≡ e
 key_same d e x y is = ap (λ (k : ℕ × Name). k.0) (some_same (d, x) (e, y) is)
 
+-- equal keys have the same name
 pub name_same : (d e : ℕ) (x y : Name) → ◌≡◌ {A = Option (ℕ × Name)} (Some (d, x)) (Some (e, y)) → x ≡ y
 name_same d e x y is = ap (λ (k : ℕ × Name). k.1) (some_same (d, x) (e, y) is)
 
 -- ---- no names
 
+-- where nothing has a name there are no tries
 pub no_tries : (roots : List (Option Branch)) (forks : List Fork) (owned owners : List ℕ) → roots ≡ [] → owned ≡ []
     → AreTriesIn roots forks owned owners (λ n. None)
 no_tries roots forks owned owners no_roots none = record {
@@ -43,6 +46,7 @@ no_tries roots forks owned owners no_roots none = record {
 
 -- ---- what the tries of directories have to do with each other
 
+-- a root stays where the forks of its trie stay
 pub root_kept : (forks next : List Fork) (root : Option Branch) (o : Option Trie)
     → ((t : Trie) (g : ℕ) (k : Fork) → o ≡ Some t → HasFork g t → slice_get forks g ≡ Some k → slice_get next g ≡ Some k)
     → IsRoot forks root o → IsRoot next root o
@@ -74,6 +78,7 @@ module _ (roots : List (Option Branch)) (forks : List Fork) (owned owners : List
   pub not_there : (k d : ℕ) (t : Trie) → keys k ≡ None → w.shape d ≡ Some t → HasLeaf k t → ⊥
   not_there k d t free is here = none_not (keys k) (d, name_in keys k) free ((w.tries d t is).leaves k here)
 
+  -- the place of a number without a name is no fork of a trie
   pub not_forked : (k f d : ℕ) (t : Trie) → keys k ≡ None → slice_get owned k ≡ Some f → w.shape d ≡ Some t → HasFork f t → ⊥
   not_forked k f d t free owns is here =
       let o = (w.tries d t is).forks f here in
@@ -82,6 +87,7 @@ module _ (roots : List (Option Branch)) (forks : List Fork) (owned owners : List
 
   -- ---- more room
 
+  -- one directory more, without a root, keeps the tries
   pub dir_more : AreTriesIn (roots ++ None ∷ []) forks owned owners keys
   dir_more = record {
     shape = w.shape;
@@ -97,6 +103,7 @@ module _ (roots : List (Option Branch)) (forks : List Fork) (owned owners : List
     paired = w.paired;
   }
 
+  -- room for more forks keeps the tries
   pub room_more : (next : List Fork) (next_owners : List ℕ)
       → ((g : ℕ) (k : Fork) → slice_get forks g ≡ Some k → slice_get next g ≡ Some k) → length forks ≤ length next
       → ((g m : ℕ) → (g ≡ length owned → ⊥) → slice_get owners g ≡ Some m → slice_get next_owners g ≡ Some m) → length owners ≤ length next_owners
@@ -128,6 +135,7 @@ module _ (roots : List (Option Branch)) (forks : List Fork) (owned owners : List
     };
   }
 
+  -- one number more, without a name, keeps the tries
   pub number_more : length owned < length forks → slice_get owners (length owned) ≡ Some (length owned)
       → AreTriesIn roots forks (owned ++ length owned ∷ []) owners keys
   number_more places_fit here = record {
@@ -167,6 +175,7 @@ module _ (roots : List (Option Branch)) (forks : List Fork) (owned owners : List
 
 -- ---- one directory has another trie
 
+-- what a change of one directory's trie leaves of roots, forks, places and keys
 pub record IsChanged (roots next_roots : List (Option Branch)) (forks next : List Fork) (owned next_owned owners next_owners : List ℕ)
     (before after : Keys) (dir k : ℕ) (w : AreTriesIn roots forks owned owners before) (o : Option Trie) : Type 0 where
   pub root_here : (r : Option Branch) → slice_get next_roots dir ≡ Some r → IsRoot next r o
@@ -219,6 +228,7 @@ module _ (roots next_roots : List (Option Branch)) (forks next : List Fork) (own
   every_at d (inr other) n name is =
       w.every n d name (sym (c.keys_other n (λ same. other (c.keys_here d name (sym (ap after same) ∙ is)))) ∙ is)
 
+  -- tries that are changed in one directory alone are tries of the new keys
   pub changed : AreTriesIn next_roots next next_owned next_owners after
   changed = record {
     shape = λ d. shape_at d (cases_eq d dir);
@@ -276,6 +286,7 @@ module _ (roots : List (Option Branch)) (forks : List Fork) (owned owners : List
           let was = w.every n dir name (sym (now.others n other) ∙ is) in
           absurd (none_not (w.shape dir) was.0 none was.1)
 
+  -- the first name of a directory hangs from its root
   pub put_first : AreTriesIn (set roots dir (Some (branch.Leaf k))) forks owned owners after
   put_first = changed roots (set roots dir (Some (branch.Leaf k))) forks forks owned owned owners owners before after dir k w (Some (leaf k)) first_change
 
@@ -318,10 +329,12 @@ module _ (roots next_roots : List (Option Branch)) (mid next : List Fork) (dir :
       let root = was r (ap (λ l. slice_get l dir) (sym link.0) ∙ r_is) in
       (root.0, root.1, shows_set mid next last.0.fork last.0.one at link.1 s part shown step steps root.0 last.1 once root.2)
 
+  -- a link that is set in one directory leaves the roots of the others
   pub linked_others : (steps : List Step) → o ≡ last_side None steps → (d : ℕ) → d ≢ dir → slice_get next_roots d ≡ slice_get roots d
   linked_others [] is d apart = ap (λ l. slice_get l d) (linked.root is).0 ∙ set_other roots dir d (Some at) apart
   linked_others (step ∷ steps) is d apart = let last = last_some step steps in ap (λ l. slice_get l d) (linked.fork last.0 (is ∙ last.1)).0
 
+  -- a link that is set leaves as many roots and forks
   pub linked_long : (steps : List Step) → o ≡ last_side None steps → (length next_roots ≡ length roots) × (length next ≡ length mid)
   linked_long [] is = (ap length (linked.root is).0 ∙ length-set roots dir (Some at), ap length (linked.root is).1)
   linked_long (step ∷ steps) is =

@@ -132,6 +132,7 @@ pub record IsOver (forks : List Fork) (t : Trie) (numbers : List ℕ) (opened : 
   pub are : AreShown forks opened tries
   pub all : numbers ++ rest_of tries ≡ numbers_in t
 
+-- going over a trie begins with its root alone on the stack
 pub over_begins : (forks : List Fork) (root : Branch) (t : Trie) (numbers : List ℕ) (opened : List Branch) → Shows forks root t → numbers ≡ []
     → opened ≡ root ∷ [] → IsOver forks t numbers opened
 over_begins forks root t numbers opened shown none one = record {
@@ -175,6 +176,7 @@ module _ (forks : List Fork) (t : Trie) (numbers : List ℕ) (opened front : Lis
           same : branch.Inner f ≡ branch.Inner g → f ≡ g
           same e = cc
 
+  -- at a fork both its branches come on the stack, the one of 0 on top
   pub over_fork : (f : ℕ) (k : Fork) → at ≡ branch.Inner f → slice_get forks f ≡ Some k → IsOver forks t numbers (front ++ k.one ∷ k.zero ∷ [])
   over_fork f k fork_is there = by last.last last.shown all_left
     where
@@ -218,6 +220,7 @@ over_ends forks t numbers opened o none = by o.tries (subst (λ l. AreShown fork
 -- ---- of a directory
 
 module _ (tries : Tries) (keys : Keys) (w : AreTries tries keys) (dir : ℕ) where
+  -- the numbers of a directory's trie are all in it, by their names
   pub listed : (t : Trie) → w.shape dir ≡ Some t → IsListed keys dir (numbers_in t)
   listed t is = record {
     each = λ n here. (name_in keys n, (w.tries dir t is).leaves n (listed_leaf t n here));
@@ -228,6 +231,7 @@ module _ (tries : Tries) (keys : Keys) (w : AreTries tries keys) (dir : ℕ) whe
         (w.tries dir t is).rises (w.tries dir t is).parts;
   }
 
+  -- where a directory has no trie, no number is in it
   pub none_listed : w.shape dir ≡ None → IsListed keys dir []
   none_listed none = record {
     each = λ n no. elim no [ ];
@@ -242,5 +246,6 @@ module _ (tries : Tries) (keys : Keys) (w : AreTries tries keys) (dir : ℕ) whe
       let n = some_leaf t.0 in
       (n.0, name_in keys n.0, (w.tries dir t.0 t.1).leaves n.0 n.1)
 
+  -- where a directory has no root, no number has a name in it
   pub none_there : slice_get tries.roots.items dir ≡ Some None → (n : ℕ) (name : Name) → keys n ≡ Some (dir, name) → ⊥
   none_there there n name is = let was = w.every n dir name is in none_not (w.shape dir) was.0 (no_trie tries keys w dir there) was.1

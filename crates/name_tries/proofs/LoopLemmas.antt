@@ -84,6 +84,7 @@ from_there forks (inner b w g l r) at f k p is goes there le =
 
 -- ---- the levels that are left
 
+-- the branch behind a fork has fewer levels left
 pub left_less : (forks : List Fork) (at next : Branch) (f : ℕ) (k : Fork) (s : Trie) → inner_at at ≡ Some f → slice_get forks f ≡ Some k
     → level k.byte k.within < most → IsAbove (level k.byte k.within) s → Shows forks next s → left forks next < left forks at
 left_less forks at next f k (leaf m) goes there lt above shown =
@@ -109,6 +110,7 @@ from_level forks (inner b w g l r) at f k p is goes there le =
 
 -- ---- to the nearest one
 
+-- a way along the bits of a name begins at the root
 pub way_begins : (forks : List Fork) (root : Branch) (x : Name) (t : Trie) → IsAt forks root t → IsTowards forks root x t
 way_begins forks root x t is = record { p = 0; steps = []; part = t; whole = refl; taken = tt; from = at_front t; is = is }
   where
@@ -116,6 +118,7 @@ way_begins forks root x t is = record { p = 0; steps = []; part = t; whole = ref
     at_front (leaf m) = tt
     at_front (inner b w g l r) = omega arith
 
+-- a way goes on along the side that the name's bit takes
 pub way_goes_on : (forks : List Fork) (at next : Branch) (x : Name) (t : Trie) (f : ℕ) (k : Fork) → IsTowards forks at x t → inner_at at ≡ Some f
     → slice_get forks f ≡ Some k → next ≡ branch_at (bit_of x k.byte k.within) k → IsTowards forks next x t
 way_goes_on forks at next x t f k on goes there is =
@@ -154,6 +157,7 @@ on_past forks at next x t f on goes is range =
           p.above (subst (λ (b : Branch). Shows forks b p.next) (sym below) p.at.1),
     )
 
+-- where a way ends at a number, that is the nearest one
 pub way_ends : (forks : List Fork) (at : Branch) (x : Name) (t : Trie) (n : ℕ) → IsTowards forks at x t → at ≡ branch.Leaf n → n ≡ nearest_in x t
 way_ends forks at x t n on is = ends on.part on.is.1 ∙ same_nearest forks at x t on
   where
@@ -170,6 +174,7 @@ pub up_begins : (forks : List Fork) (root : Branch) (x : Name) (p : ℕ) (t : Tr
     → IsWay forks t x p (record { side = None; below = root })
 up_begins forks root x p t is = record { steps = []; part = t; is = refl; taken = tt; side = refl; rises = is.0; shown = is.1 }
 
+-- a way below a level goes on past a fork below it
 pub up_goes_on : (forks : List Fork) (way next : Way) (x : Name) (p : ℕ) (t : Trie) (f : ℕ) (k : Fork) → IsWay forks t x p way
     → inner_at way.below ≡ Some f → slice_get forks f ≡ Some k → level k.byte k.within < p → next ≡ past f (bit_of x k.byte k.within) k
     → IsWay forks t x p next
@@ -245,6 +250,7 @@ pub record IsSideOf (forks : List Fork) (t : Trie) (x : Name) (w : ℕ) (way : W
   pub at : IsAt forks way.below next
   pub above : IsAbove w next
 
+-- the last step of a way leads to the side that the name's bit takes
 pub side_taken : (forks : List Fork) (t : Trie) (x : Name) (last : Last) (w : IsWayToLast forks t x last)
     → IsSideOf forks t x (level w.byte w.within) (way_of last)
 side_taken forks t x last w = at (bit_of x w.byte w.within) refl

@@ -76,12 +76,14 @@ names_less x y b w x_bytes y_bytes nine alike even odd =
 
 -- ---- tries
 
+-- a number in the list of a trie is one of its numbers
 pub listed_leaf : (t : Trie) (n : ℕ) → IsIn n (numbers_in t) → HasLeaf n t
 listed_leaf (leaf m) n (inl same) = same
 listed_leaf (leaf m) n (inr none) = elim none [ ]
 listed_leaf (inner b w f l r) n here = ⊎_elim (λ left. inl (listed_leaf l n left)) (λ right. inr (listed_leaf r n right))
     (in_either n (numbers_in l) (numbers_in r) here)
 
+-- a number of a trie is in its list
 pub leaf_listed : (t : Trie) (n : ℕ) → HasLeaf n t → IsIn n (numbers_in t)
 leaf_listed (leaf m) n same = inl same
 leaf_listed (inner b w f l r) n (inl here) = in_front n (numbers_in l) (numbers_in r) (leaf_listed l n here)

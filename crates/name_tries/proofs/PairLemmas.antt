@@ -60,6 +60,7 @@ module _ (owned next_owned owners next_owners : List ℕ) (places n f : ℕ) (pa
         inl (other, owners_at g apart not_s ∙ owner, owned_at k other not_m ∙ owns_g)
   ]
 
+  -- numbers and places are still paired after a place is handed over
   pub still_paired : ArePaired next_owned next_owners places
   still_paired = record {
     pair = λ k g is. pair_at k g is;

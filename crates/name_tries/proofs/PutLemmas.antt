@@ -247,5 +247,6 @@ module _ (roots next_roots : List (Option Branch)) (forks next : List Fork) (own
       long : length next ≡ length forks
       long = (linked_long roots next_roots mid next dir way.side (branch.Inner f) linked s steps to.to.side).1 ∙ length-set forks f fork
 
+  -- a number gets a name beside others, at a new fork
   pub put_beside : AreTriesIn next_roots next owned owners after
   put_beside = changed roots next_roots forks next owned owned owners owners before after dir k w (Some (whole_of steps part)) put_change

@@ -22,6 +22,7 @@ nearest_has_at : (x : Name) (l r : Trie) (v : Bool) → HasLeaf (nearest_in x l)
 nearest_has_at x l r true left right = inr right
 nearest_has_at x l r false left right = inl left
 
+-- the number to which the bits of a name lead is one of the trie's
 pub nearest_has : (x : Name) (t : Trie) → HasLeaf (nearest_in x t) t
 nearest_has x (leaf m) = refl
 nearest_has x (inner b w f l r) = nearest_has_at x l r (bit_of x b w) (nearest_has x l) (nearest_has x r)
@@ -46,6 +47,7 @@ nearest_bit name x b w f l r parts = nearest_bit_at name x b w f l r (bit_of x b
 
 -- ---- names that change elsewhere
 
+-- a trie parts its names as before where they stay the same
 pub parts_same : (name other : ℕ → Name) (t : Trie) → ((n : ℕ) → HasLeaf n t → other n ≡ name n) → Parts name t → Parts other t
 parts_same name other (leaf m) same parts = tt
 parts_same name other (inner b w f l r) same parts = (
@@ -93,6 +95,7 @@ module _ (name : ℕ → Name) (b w f k n : ℕ) (s : Trie) (nine : w < 9) (abov
   bit_there : (m : ℕ) → HasLeaf m s → bit_of (name m) b w ≡ bit_of (name n) b w
   bit_there m here = alike_above name (level b w) s m n above parts here there b w nine (omega arith)
 
+  -- all names of a part are alike to the new one up to the fork's bit
   pub alike_there : (m : ℕ) → HasLeaf m s → AreAlike (level b w) (name k) (name m)
   alike_there m here = alike_on (level b w) (name k) (name n) (name m) alike
       (alike_below (level b w) (level b w + 1) (name n) (name m) (omega arith) (alike_above name (level b w) s n m above parts there here))
@@ -109,6 +112,7 @@ module _ (name : ℕ → Name) (b w f k n : ℕ) (s : Trie) (nine : w < 9) (abov
   turned m (inl e) = inr e
   turned m (inr a) = inl a
 
+  -- a new fork parts the new name from those of the part
   pub parted_parts : (v : Bool) → bit_of (name k) b w ≡ v → Parts name (parted v b w f k s)
   parted_parts true is = (
     λ m here. bit_there m here ∙ other_bit (bit_of (name n) b w) is,
@@ -140,6 +144,7 @@ module _ (name : ℕ → Name) (b w f k n : ℕ) (s : Trie) (nine : w < 9) (abov
       other_bit true e = e
       other_bit false e = absurd (apart (is ∙ sym e))
 
+  -- below a new fork the names part at later bits
   pub parted_rises : (v : Bool) → Rises (parted v b w f k s)
   parted_rises true = (nine, above, tt, rises, tt)
   parted_rises false = (nine, tt, above, tt, rises)
@@ -151,14 +156,17 @@ parted_leaves true b w f k s n (inr new) = inl new
 parted_leaves false b w f k s n (inl new) = inl new
 parted_leaves false b w f k s n (inr here) = inr here
 
+-- a new fork has the new number
 pub parted_new : (v : Bool) (b w f k : ℕ) (s : Trie) → HasLeaf k (parted v b w f k s)
 parted_new true b w f k s = inr refl
 parted_new false b w f k s = inl refl
 
+-- a new fork has the numbers of the part
 pub parted_old : (v : Bool) (b w f k : ℕ) (s : Trie) (n : ℕ) → HasLeaf n s → HasLeaf n (parted v b w f k s)
 parted_old true b w f k s n here = inl here
 parted_old false b w f k s n here = inr here
 
+-- a new fork adds its own place to those of the part
 pub parted_forks : (v : Bool) (b w f k : ℕ) (s : Trie) (g : ℕ) → HasFork g (parted v b w f k s) → (g ≡ f) ⊎ HasFork g s
 parted_forks true b w f k s g (inl new) = inl new
 parted_forks true b w f k s g (inr (inl here)) = inr here
@@ -167,10 +175,12 @@ parted_forks false b w f k s g (inl new) = inl new
 parted_forks false b w f k s g (inr (inl none)) = elim none [ ]
 parted_forks false b w f k s g (inr (inr here)) = inr here
 
+-- a new fork at a free place keeps each place that of one fork
 pub parted_once : (v : Bool) (b w f k : ℕ) (s : Trie) → (HasFork f s → ⊥) → AreOnce s → AreOnce (parted v b w f k s)
 parted_once true b w f k s fresh once = (fresh, λ none. none, λ g here none. none, once, tt)
 parted_once false b w f k s fresh once = (λ none. none, fresh, λ g none here. none, tt, once)
 
+-- the names at a new fork part behind an earlier level
 pub parted_above : (v : Bool) (b w f k q : ℕ) (s : Trie) → q < level b w → IsAbove q (parted v b w f k s)
 parted_above true b w f k q s lt = lt
 parted_above false b w f k q s lt = lt

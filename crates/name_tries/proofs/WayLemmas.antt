@@ -13,11 +13,13 @@ use Rattle.name_tries.proofs.TrieLemmas.{some_leaf, shows_kept}
 
 -- ---- one step more
 
+-- more steps lead from the whole through the part
 pub whole_more : (steps more : List Step) (s : Trie) → whole_of (steps ++ more) s ≡ whole_of steps (whole_of more s)
 whole_more [] more s = refl
 whole_more (on_zero b w f r ∷ steps) more s = ap (λ t. inner b w f t r) (whole_more steps more s)
 whole_more (on_one b w f l ∷ steps) more s = ap (λ t. inner b w f l t) (whole_more steps more s)
 
+-- the last side is that of the last step
 pub side_more : (before : Option Side) (steps : List Step) (step : Step) → last_side before (steps ++ step ∷ []) ≡ side_of step
 side_more before [] step = refl
 side_more before (first ∷ steps) step = side_more (side_of first) steps step
@@ -31,17 +33,20 @@ pub taken_far : (x : Name) (p q : ℕ) (steps : List Step) → p ≤ q → AreTa
 taken_far x p q [] le are = tt
 taken_far x p q (step ∷ steps) le are = (taken_on x p q step le are.0, taken_far x p q steps le are.1)
 
+-- one step more is one that the name's bits take
 pub taken_more : (x : Name) (p : ℕ) (steps : List Step) (step : Step) → AreTaken x p steps → IsTaken x p step → AreTaken x p (steps ++ step ∷ [])
 taken_more x p [] step are is = (is, tt)
 taken_more x p (first ∷ steps) step are is = (are.0, taken_more x p steps step are.1 is)
 
 -- ---- what the whole has
 
+-- a number of the part is one of the whole
 pub leaf_in : (steps : List Step) (s : Trie) (n : ℕ) → HasLeaf n s → HasLeaf n (whole_of steps s)
 leaf_in [] s n here = here
 leaf_in (on_zero b w f r ∷ steps) s n here = inl (leaf_in steps s n here)
 leaf_in (on_one b w f l ∷ steps) s n here = inr (leaf_in steps s n here)
 
+-- a fork of the part is one of the whole
 pub fork_in : (steps : List Step) (s : Trie) (g : ℕ) → HasFork g s → HasFork g (whole_of steps s)
 fork_in [] s g here = here
 fork_in (on_zero b w f r ∷ steps) s g here = inr (inl (fork_in steps s g here))
@@ -49,6 +54,7 @@ fork_in (on_one b w f l ∷ steps) s g here = inr (inr (fork_in steps s g here))
 
 -- what the part has besides, the whole has besides
 module _ (P : ℕ → Type 0) (s next : Trie) where
+  -- each number of the changed whole is new or was one of the old whole
   pub leaf_map : (steps : List Step) → ((n : ℕ) → HasLeaf n next → P n ⊎ HasLeaf n s)
       → (n : ℕ) → HasLeaf n (whole_of steps next) → P n ⊎ HasLeaf n (whole_of steps s)
   leaf_map [] to n here = to n here
@@ -57,6 +63,7 @@ module _ (P : ℕ → Type 0) (s next : Trie) where
   leaf_map (on_one b w f l ∷ steps) to n (inl there) = inr (inl there)
   leaf_map (on_one b w f l ∷ steps) to n (inr here) = ⊎_elim (λ new. inl new) (λ old. inr (inr old)) (leaf_map steps to n here)
 
+  -- each fork of the changed whole is new or was one of the old whole
   pub fork_map : (steps : List Step) → ((g : ℕ) → HasFork g next → P g ⊎ HasFork g s)
       → (g : ℕ) → HasFork g (whole_of steps next) → P g ⊎ HasFork g (whole_of steps s)
   fork_map [] to g here = to g here
@@ -93,6 +100,7 @@ module _ (P : ℕ → Type 0) (s next : Trie) where
     above_map (on_zero b w f r ∷ steps) q lt is = is
     above_map (on_one b w f l ∷ steps) q lt is = is
 
+    -- changing the part keeps the later bits below each fork of the whole
     pub rises_map : (steps : List Step) → AreTaken x p steps → Rises next → Rises (whole_of steps s) → Rises (whole_of steps next)
     rises_map [] taken rises was = rises
     rises_map (on_zero b w f r ∷ steps) taken rises was =
@@ -121,6 +129,7 @@ module _ (P : ℕ → Type 0) (s next : Trie) where
         alike_on q (name i) (name some.0) (name j) (alike_below q p (name i) (name some.0) (omega arith) (alike i some.0 one some.1))
         (alike_back q (name j) (name some.0) (alike_below q p (name j) (name some.0) (omega arith) (alike j some.0 two some.1)))
 
+    -- changing the part keeps the names parted in the whole
     pub parts_map : (steps : List Step) → AreTaken x p steps → ((n : ℕ) → P n → AreTaken (name n) p steps)
         → Parts name next → Parts name (whole_of steps s) → Parts name (whole_of steps next)
     parts_map [] taken new parts was = parts
@@ -148,11 +157,13 @@ rises_part [] s rises = rises
 rises_part (on_zero b w f r ∷ steps) s rises = rises_part steps s rises.3
 rises_part (on_one b w f l ∷ steps) s rises = rises_part steps s rises.4
 
+-- in the part too each place is that of one fork
 pub once_part : (steps : List Step) (s : Trie) → AreOnce (whole_of steps s) → AreOnce s
 once_part [] s once = once
 once_part (on_zero b w f r ∷ steps) s once = once_part steps s once.3
 once_part (on_one b w f l ∷ steps) s once = once_part steps s once.4
 
+-- in the part too the names part by their bits
 pub parts_part : (name : ℕ → Name) (steps : List Step) (s : Trie) → Parts name (whole_of steps s) → Parts name s
 parts_part name [] s parts = parts
 parts_part name (on_zero b w f r ∷ steps) s parts = parts_part name steps s parts.3
@@ -223,6 +234,7 @@ module _ (forks next : List Fork) (f : ℕ) (one : Bool) (at : Branch) (set : Is
   kept : (t : Trie) (b : Branch) → (HasFork f t → ⊥) → Shows forks b t → Shows next b t
   kept t b none is = shows_kept forks next t b (λ g k here was. set.others g (λ same. none (subst (λ (i : ℕ). HasFork i t) same here)) ∙ was) is
 
+  -- setting the last branch of a way changes the part that hangs there
   pub shows_set : (step : Step) (steps : List Step) (root : Branch) → last_side (side_of step) steps ≡ Some (side f one)
       → AreOnce (whole_of (step ∷ steps) s) → Shows forks root (whole_of (step ∷ steps) s) → Shows next root (whole_of (step ∷ steps) part)
   shows_set (on_zero b w g r) [] root is once was =

@@ -30,9 +30,11 @@ module _ (key : List ℕ) where
   abbrev pub IsHigh : List Xattr → ℕ → Type 0
   IsHigh xs at = (k : ℕ) (d : Xattr) → at ≤ k → k < length xs → key_cmp (get_or xs k d).key key ≡ Greater
 
+  -- those in front of a key's place are below the key
   pub low_here : (xs : List Xattr) (at : ℕ) → IsAscending xs → IsKeyAt xs key at → IsLow xs at
   low_here xs at up here k d lt = subst (λ q. key_cmp (get_or xs k d).key q ≡ Less) (here.is d) (rising xs up k at d lt here.in_range)
 
+  -- those behind a key's place are above the key
   pub high_here : (xs : List Xattr) (at : ℕ) → IsAscending xs → IsKeyAt xs key at → IsHigh xs (at + 1)
   high_here xs at up here k d le within =
       turned key (get_or xs k d).key Less (subst (λ q. key_cmp q (get_or xs k d).key ≡ Less) (here.is d) (rising xs up at k d (omega arith) within))
@@ -72,6 +74,7 @@ module _ (key : List ℕ) where
       ap (λ r. cond (is_eq r) (Some x.value) (fin.find key_cmp key (entries_of xs))) (over x xs at low)
       ∙ found_here xs at d (λ k e lt. low (suc k) e (omega (arith, lt))) (next x xs at here)
 
+  -- putting a value in for a key that stands there replaces the attribute at its place
   pub put_here : (value : List ℕ) (xs : List Xattr) (at : ℕ) (y : Xattr) → IsLow xs at → IsKeyAt xs key at → y.key ≡ key → y.value ≡ value → fin.put key_cmp key value (entries_of xs) ≡ entries_of (set xs at y)
   put_here value [] at y low here is told = absurd (omega (arith, here.in_range))
   put_here value (x ∷ xs) zero y low here is told =
@@ -81,6 +84,7 @@ module _ (key : List ℕ) where
       ap (λ r. fin.Entries.by_order r ((key, value) ∷ entries_of (x ∷ xs)) ((x.key, value) ∷ entries_of xs) ((x.key, x.value) ∷ fin.put key_cmp key value (entries_of xs))) (over x xs at low)
       ∙ ap (λ es. (x.key, x.value) ∷ es) (put_here value xs at y (λ k e lt. low (suc k) e (omega (arith, lt))) (next x xs at here) is told)
 
+  -- the entries of other keys are those without the one at the key's place
   pub out_here : (xs : List Xattr) (at : ℕ) → IsLow xs at → IsKeyAt xs key at → IsHigh xs (at + 1) → others (entries_of xs) ≡ entries_of (remove xs at)
   out_here [] at low here high = absurd (omega (arith, here.in_range))
   out_here (x ∷ xs) zero low here high =
@@ -99,6 +103,7 @@ module _ (key : List ℕ) where
       ap (λ r. cond (is_eq r) (Some x.value) (fin.find key_cmp key (entries_of xs))) (over x xs at low)
       ∙ found_gap xs at (omega (arith, le)) (λ k e lt. low (suc k) e (omega (arith, lt))) (λ k d up within. high (suc k) d (omega (arith, up)) (omega (arith, within)))
 
+  -- putting a value in for a new key inserts an attribute at its gap
   pub put_gap : (value : List ℕ) (xs : List Xattr) (at : ℕ) (y : Xattr) → at ≤ length xs → IsLow xs at → IsHigh xs at → y.key ≡ key → y.value ≡ value → fin.put key_cmp key value (entries_of xs) ≡ entries_of (insert xs at y)
   put_gap value [] zero y le low high is told = λ i. (sym is i, sym told i) ∷ []
   put_gap value [] (suc at) y le low high is told = absurd (omega (arith, le))
@@ -110,6 +115,7 @@ module _ (key : List ℕ) where
       ∙ ap (λ es. (x.key, x.value) ∷ es)
       (put_gap value xs at y (omega (arith, le)) (λ k e lt. low (suc k) e (omega (arith, lt))) (λ k d up within. high (suc k) d (omega (arith, up)) (omega (arith, within))) is told)
 
+  -- where a key has only a gap, all entries are of other keys
   pub out_gap : (xs : List Xattr) (at : ℕ) → at ≤ length xs → IsLow xs at → IsHigh xs at → others (entries_of xs) ≡ entries_of xs
   out_gap xs zero le low high = none_out xs high
   out_gap [] (suc at) le low high = refl

@@ -24,15 +24,19 @@ untold : (xs : List Xattr) → rows (entries_of xs) ≡ xs
 untold [] = refl
 untold (x ∷ xs) = ap (λ l. x ∷ l) (untold xs)
 
+-- the list of a map has the map's entries
 pub list_entries : (m : KeyMap) → entries_of (list_of m) ≡ fin.entries m
 list_entries m = told (fin.entries m)
 
+-- the list of a map is in the order of the keys
 pub list_ascends : (m : KeyMap) → IsAscending (list_of m)
 list_ascends m = from_sorted (list_of m) (subst (λ es. T (fin.is_sorted key_cmp es)) (sym (list_entries m)) (fin.entries_sorted m))
 
+-- the list of a map has each key once
 pub list_apart : (m : KeyMap) → AreKeysApart (list_of m)
 list_apart m = IsDistinct-from_sorted key_cmp (keys_of (list_of m)) (list_ascends m)
 
+-- the map that the list of a map says is that map
 pub map_back : (m : KeyMap) → map_of (list_of m) ≡ m
 map_back m = fin.same_entries_map (map_of (list_of m)) m (entries_are (list_of m) (list_ascends m) ∙ list_entries m)
 
@@ -57,6 +61,7 @@ found_in_map P xs all key value is =
     let one = found_one xs key value (sym (get_is xs key) ∙ is) in
     subst P (λ i. record { key = one.2 i; value = one.3 i }) (from_all P xs all one.0 one.1)
 
+-- a value that the map of a list has stands in that list
 pub in_list : (xs : List Xattr) (key value : List ℕ) → fin.get (map_of xs) key ≡ Some value → Contains xs (record { key = key; value = value })
 in_list xs key value is =
     let one = found_one xs key value (sym (get_is xs key) ∙ is) in
@@ -93,6 +98,7 @@ none_same key (y ∷ ys) all (suc at) x is same = none_same key ys all.1 at x is
 abbrev pub NoKeyTwice : List Xattr → Type 0
 NoKeyTwice xs = (earlier later : ℕ) (one other : Xattr) → earlier < later → slice_get xs earlier ≡ Some one → slice_get xs later ≡ Some other → one.key ≡ other.key → ⊥
 
+-- where no two places have the same key, each key stands once
 pub apart_by_places : (xs : List Xattr) → NoKeyTwice xs → AreKeysApart xs
 unfolding IsDistinct
 apart_by_places [] none = tt
@@ -100,6 +106,7 @@ apart_by_places (x ∷ xs) none = IsDistinct-cons (eq_by_cmp key_cmp) x.key (key
     (all_differ x.key xs (λ at y is same. none 0 (suc at) x y (omega arith) refl is same))
     (apart_by_places xs (λ earlier later one other lt is also same. none (suc earlier) (suc later) one other (omega (arith, lt)) is also same))
 
+-- where each key stands once, no two places have the same key
 pub places_apart : (xs : List Xattr) → AreKeysApart xs → NoKeyTwice xs
 places_apart [] apart earlier later one other lt is also same = cc
 places_apart (x ∷ xs) apart earlier zero one other lt is also same = absurd (omega (arith, lt))

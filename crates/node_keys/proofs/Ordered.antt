@@ -14,6 +14,7 @@ use Rattle.node_keys.specs.Keys.{key_cmp, keys_of, entries_of, map_of, IsAscendi
 pub key_total : IsTotalOrder key_cmp
 key_total = nat_list_cmp_total
 
+-- keys of which none is before the other are the same
 pub key_exact : fin.IsAntisymmetric key_cmp
 key_exact = fin.slice_cmp-IsAntisymmetric fin.nat_cmp-IsAntisymmetric
 
@@ -48,6 +49,7 @@ unfolding IsStrictlySortedBy
 to_sorted [] up = tt
 to_sorted (x ∷ xs) up = both _ _ (below x.key xs up.0) (to_sorted xs up.1)
 
+-- entries in the order of their keys are of attributes in that order
 pub from_sorted : (xs : List Xattr) → T (fin.is_sorted key_cmp (entries_of xs)) → IsAscending xs
 unfolding IsStrictlySortedBy
 from_sorted [] up = tt
@@ -62,6 +64,7 @@ pub entries_are : (xs : List Xattr) → IsAscending xs → fin.entries (map_of x
 entries_are xs up = fin.Entries.same_entries key_cmp key_total key_exact (fin.entries (map_of xs)) (entries_of xs)
     (fin.entries_sorted (map_of xs)) (to_sorted xs up) (λ q. sym (fin.get-entries (map_of xs) q) ∙ get_is xs q)
 
+-- the map of attributes in order is as large as their list is long
 pub len_is : (xs : List Xattr) → IsAscending xs → fin.len (map_of xs) ≡ length xs
 len_is xs up = fin.len-entries (map_of xs) ∙ ap length (entries_are xs up) ∙ length-map xs (λ x. (x.key, x.value))
 
@@ -79,6 +82,7 @@ flipped : (b : Bool) (x y : Option (List ℕ)) → cond (not b) x y ≡ cond b y
 flipped true x y = refl
 flipped false x y = refl
 
+-- without the entries of a key, the list is in order and its map is the map without the key
 pub is_removed : (xs ys : List Xattr) (key : List ℕ) → IsAscending xs → fin.Entries.where_key key_cmp (λ k. not (eq_by_cmp key_cmp key k)) (entries_of xs) ≡ entries_of ys → IsAscending ys × (map_of ys ≡ fin.remove (map_of xs) key)
 is_removed xs ys key up is =
     let stays : List ℕ → Bool = λ k. not (eq_by_cmp key_cmp key k) in

@@ -27,6 +27,7 @@ keys_rise : (xs : List Xattr) (key : List ℕ) → IsAscending xs → IsNonDecre
 keys_rise xs key up i j d le within = ⊎_elim (λ (same : i ≡ j). subst (λ k. ordering_index (key_cmp (get_or xs i d).key key) ≤ ordering_index (key_cmp (get_or xs k d).key key)) same (le_refl _))
     (λ lt. climbs (get_or xs i d).key (get_or xs j d).key key (rising xs up i j d lt within)) (eq-or-lt_of_le le)
 
+-- a search by halves finds the place of a key, or the gap for it
 pub searched : (xs : List Xattr) (key : List ℕ) (r : Result ℕ ℕ) → IsAscending xs → IsSearchInRange r (length xs) → IsBinarySearchResult (λ (x : Xattr). key_cmp x.key key) xs r → record { there : IfOk r (IsKeyAt xs key); absent : IfErr r (IsGapFor xs key) }
 searched xs key (Ok at) up within equal = record { there = record { in_range = within; is = λ d. key_exact _ key (equal d) }; absent = tt }
 searched xs key (Err at) up within parted =

@@ -17,6 +17,7 @@ use Rattle.node_keys.proofs.Ordered.{key_total, key_exact, get_is}
 abbrev pub by_key : Xattr → Xattr → Bool
 by_key x y = is_lt (key_cmp x.key y.key)
 
+-- comparing attributes by their keys ranks them
 pub by_key_ranks : IsStrictWeakOrder by_key
 by_key_ranks = ranks_by key_total (λ (x : Xattr). x.key)
 
@@ -34,6 +35,7 @@ lower a b not_above differ = cases (key_cmp a b) refl
     cases Equal is = let wrong : true ≡ false = ap is_eq (sym is) ∙ differ in cc
     cases Greater is = let wrong : true ≡ false = ap is_lt (sym (key_total.antisymm b a ∙ ap ordering_reverse is)) ∙ not_above in cc
 
+-- sorted attributes with each key once ascend strictly
 pub ascend_sorted : (ys : List Xattr) → IsSortedBy by_key ys → AreKeysApart ys → IsAscending ys
 ascend_sorted [] up apart = sorted_from_all_adjacent key_total [] [] (λ k lt. absurd (omega (arith, lt)))
 ascend_sorted (y ∷ ys) up apart = sorted_from_all_adjacent key_total (keys_of (y ∷ ys)) y.key (λ k lt.

@@ -31,6 +31,7 @@ pub synced_places_are : (replies : List (Option Reply)) → synced_places replie
 synced_places_are replies =
     filter_map_agree _ (λ e. cond (is_synced e.1) (Some e.0) None) (λ e. ⊎_elim (λ is. rw is refl) (λ is. rw is refl) (cases_Bool (is_synced e.1))) (enumerate_from 0 replies)
 
+-- one more reply adds its place to the synced ones just if it says so
 pub synced_push : (replies : List (Option Reply)) (reply : Option Reply) → synced_places (replies ++ reply ∷ []) ≡ synced_places replies ++ cond (is_synced reply) (length replies ∷ []) []
 synced_push replies reply =
     synced_places_are (replies ++ reply ∷ []) ∙ picked_push is_synced replies reply ∙ ap (λ l. l ++ cond (is_synced reply) (length replies ∷ []) []) (sym (synced_places_are replies))
@@ -39,12 +40,14 @@ synced_push replies reply =
 abbrev pub synced_at : Option (Option Reply) → Bool
 synced_at reply = passes is_synced reply
 
+-- a place is among the synced ones just if its reply says that it is synced
 pub has_synced_place : (replies : List (Option Reply)) (k : ℕ) → has k (synced_places replies) ≡ synced_at (slice_get replies k)
 has_synced_place replies k = ap (has k) (synced_places_are replies) ∙ has_picked is_synced replies k
 
 pub places_rise : (replies : List (Option Reply)) → is_rising (synced_places replies) ≡ true
 places_rise replies = subst (λ l. is_rising l ≡ true) (sym (synced_places_are replies)) (picked_rise is_synced 0 replies)
 
+-- a place is among those that events answer just if one of them answers it
 pub has_answered : (events : List Event) (k : ℕ) → has k (filter_map synced_ticket events) ≡ list_any (answers k) events
 has_answered [] k = refl
 has_answered (Synced ticket ∷ events) k = ap (λ b. (ticket == k) || b) (has_answered events k)
@@ -69,6 +72,7 @@ or_false : (a b : Bool) → b ≡ false → a ≡ (a || b)
 or_false true b e = refl
 or_false false b e = sym e
 
+-- the places that are synced after a turn are those before and those that its events answer
 pub synced_turn : (added : List Event) (old new : List (Option Reply)) → AreAnswered added old new → is_rising (synced_places old ++ filter_map synced_ticket added) ≡ true
     → synced_places new ≡ synced_places old ++ filter_map synced_ticket added
 synced_turn added old new turned rises =
@@ -104,6 +108,7 @@ pairs_more acks command (t ∷ tickets) pairs below =
     (all_pairs_push (λ (a b : Ack). a.command ≤ b.command) acks last pairs (λ k d less. All-get_or (λ (a : Ack). a.command ≤ command) acks k d less below))
     (All-push (λ (a : Ack). a.command ≤ command) acks last below (omega arith)))
 
+-- with the acks of what a turn answers, the acks are those of the longer trail
 pub acks_more : (events added : List Event) (old new : List (Option Reply)) (acks : List Ack) (command : ℕ) → AreAcks events old acks → All (λ (a : Ack). a.command ≤ command) acks
     → synced_places new ≡ synced_places old ++ filter_map synced_ticket added → AreAcks (events ++ added) new (acks ++ acks_for command added)
 acks_more events added old new acks command were below places = record {
@@ -114,6 +119,7 @@ acks_more events added old new acks command were below places = record {
   rising = pairs_more acks command (filter_map synced_ticket added) were.rising below;
 }
 
+-- with the acks of a turn no ack is of a command to come
 pub commands_more : (added : List Event) (acks : List Ack) (before command : ℕ) → before ≤ command → All (λ (a : Ack). a.command ≤ before) acks → All (λ (a : Ack). a.command ≤ command) (acks ++ acks_for command added)
 commands_more added acks before command later below =
     All-append (λ (a : Ack). a.command ≤ command) acks (acks_for command added) (All-weaker (λ (a : Ack). a.command ≤ before) (λ (a : Ack). a.command ≤ command) (λ a h. omega (arith, h, later)) acks below)
@@ -125,6 +131,7 @@ commands_more added acks before command later below =
 abbrev claimed : List Event → Ack → ℕ
 claimed events ack = min (ack.command + steps (after_first (answers ack.place) events)) (2 ^ 64 - 1)
 
+-- behind each ack the drive counts all steps since, also with the acks of a turn
 pub reached_more : (events added : List Event) (acks : List Ack) (before now : ℕ) → AreReached events acks before → before ≤ now → min (before + steps added) (2 ^ 64 - 1) ≤ now
     → ((t : ℕ) → has t (filter_map synced_ticket added) ≡ true → list_any (answers t) events ≡ false)
     → ((t : ℕ) → steps (after_first (answers t) added) ≡ 0)

@@ -58,6 +58,7 @@ one_apart st e is apart k =
     let less = turning_less st e k is in
     and_weaker (list_any (wants_it k) st.requests) (list_any (syncs_it k) st.syncs) (list_any (wants_it k) (after st e).requests) (list_any (syncs_it k) (after st e).syncs) less.wants less.syncs (apart k)
 
+-- over a turn nobody comes to wait both for a block and for a flush
 pub turning_apart : (st : State) (events : List Event) → list_all is_turning events ≡ true → AreApart st → AreApart (fold after st events)
 turning_apart st [] every apart = apart
 turning_apart st (e ∷ events) every apart =
@@ -169,6 +170,7 @@ untouched st (e ∷ events) k apart rising trail every waits =
       unanswered = ap (λ b. b || list_any (answers k) events) (unanswered_head st e k apart may.fits_now waits_now) ∙ later.unanswered;
     }
 
+-- a place that still waits after a turn was touched by none of its events
 pub still_untouched : (st : State) (front : List ℕ) (events : List Event) (k : ℕ) → AreApart st → is_rising (front ++ tickets st.syncs) ≡ true → is_trail_from st events ≡ true → list_all is_turning events ≡ true
     → is_waiting (fold after st events) k ≡ true → IsUntouched st events k
 still_untouched st front events k apart rising trail every waits = untouched st events k apart (rising_back front (tickets st.syncs) rising) trail every waits

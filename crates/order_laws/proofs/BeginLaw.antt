@@ -6,6 +6,7 @@ use Rattle.serving_promise.proofs.StartLaw.{begins_served}
 use Rattle.order_laws.specs.Kept.{seen}
 use Rattle.order_laws.specs.Laws.{VolumesBeginInOrder}
 
+-- a volume of which nothing was asked yet is served in order
 pub volumes_begin : {D : Type 0} (drive : Ghosts D) → VolumesBeginInOrder drive
 volumes_begin drive fixed next sessions = record {
   orderly = (begins_served by_reference (seen drive fixed.first) fixed next).orderly;

@@ -35,6 +35,7 @@ use Rattle.order_laws.proofs.Views.{moments_push}
 use Rattle.order_laws.proofs.Waits.{waiting_push}
 
 module _ {D : Type 0} (first now : Drive) (v : View D) (p : Placed) (counts : Twin) where
+  -- a session drains and owns one fault, with which its write is placed void
   pub record CanFail : Type 0 where
     pub kept : IsKeptOrder first now v
     pub drains : phase p.who v.marks ≡ draining
@@ -49,6 +50,7 @@ module _ {D : Type 0} (first now : Drive) (v : View D) (p : Placed) (counts : Tw
   abbrev kinds : List MarkKind
   kinds = places (length v.history) ∷ hands (length v.history) (replies.Fault counts) ∷ []
 
+  -- the volume with the write placed void and its fault told
   abbrev pub failed_view : Option Moment → View D
   failed_view next = record v {
     next = next;
@@ -114,6 +116,7 @@ module _ {D : Type 0} (first now : Drive) (v : View D) (p : Placed) (counts : Tw
       by true is e same = absurd (let h : idle ≡ draining = sym (idle_then c w is) ∙ e in cc)
       by false is e same = omega (arith, c.kept.more w e, ap length (same ∙ append-nil (places_of w v.marks)))
 
+  -- a write that is placed void with the fault of its drain keeps the order
   pub failing_keeps : CanFail → (next : Option Moment) → IsKeptOrder first now (failed_view next)
   failing_keeps c next = record {
     orderly = record {

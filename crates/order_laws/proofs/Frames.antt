@@ -46,14 +46,17 @@ op_stays head arrived requests done [] group syncs drains (Some op) = record { r
 op_stays head arrived requests done (x ∷ ended) group syncs drains None = record { requests = refl; syncs = refl; drains = refl }
 op_stays head arrived requests done (x ∷ ended) group syncs drains (Some op) = record { requests = refl; syncs = refl; drains = refl }
 
+-- an op that is done leaves the requests, the syncs and the drains as they were
 pub worked_stays : (st : State) (o : Option Op) → Stays (after_op o st) st
 worked_stays st o = op_stays st.head st.arrived st.requests st.done st.ended st.group st.syncs st.drains o
 
 -- ---- who waits
 
+-- the request is of this ticket
 abbrev pub wants_it : ℕ → Request → Bool
 wants_it k r = r.ticket == k
 
+-- the sync is of this ticket
 abbrev pub syncs_it : ℕ → Waiter → Bool
 syncs_it k s = s.ticket == k
 
@@ -130,6 +133,7 @@ own_syncs st (Worked place fault) here k other is = absurd (cc)
 
 -- ---- over lists of events
 
+-- nobody comes to wait by the events of a turn
 pub turning_list : (st : State) (events : List Event) (k : ℕ) → list_all is_turning events ≡ true → is_waiting st k ≡ false → is_waiting (fold after st events) k ≡ false
 turning_list st [] k every h = h
 turning_list st (e ∷ events) k every h =
@@ -141,6 +145,7 @@ pub record AreSame (a b : State) (k : ℕ) : Type 0 where
   pub wants : list_any (wants_it k) a.requests ≡ list_any (wants_it k) b.requests
   pub syncs : list_any (syncs_it k) a.syncs ≡ list_any (syncs_it k) b.syncs
 
+-- a placement's own events leave what waits for another place
 pub own_same : (st : State) (events : List Event) (here k : ℕ) → (here == k) ≡ false → list_all (is_own here) events ≡ true → AreSame (fold after st events) st k
 own_same st [] here k other every = record { wants = refl; syncs = refl }
 own_same st (e ∷ events) here k other every =
@@ -148,6 +153,7 @@ own_same st (e ∷ events) here k other every =
     let later = own_same (after st e) events here k other parts.1 in
     record { wants = later.wants ∙ own_wants st e here k other parts.0; syncs = later.syncs ∙ own_syncs st e here k other parts.0 }
 
+-- a placement's own events leave whether another place waits
 pub own_list : (st : State) (events : List Event) (here k : ℕ) → (here == k) ≡ false → list_all (is_own here) events ≡ true → is_waiting (fold after st events) k ≡ is_waiting st k
 own_list st events here k other every =
     let same = own_same st events here k other every in
@@ -165,6 +171,7 @@ own_steps (Rests who ∷ events) here every = absurd (cc)
 own_steps (Served ticket place fault ∷ events) here every = absurd (cc)
 own_steps (Worked place fault ∷ events) here every = absurd (cc)
 
+-- a placement's own events leave the sessions that drain
 pub own_drains : (st : State) (events : List Event) (here : ℕ) → list_all (is_own here) events ≡ true → (fold after st events).drains ≡ st.drains
 own_drains st [] here every = refl
 own_drains st (Wants ticket place ∷ events) here every = own_drains (after st (Wants ticket place)) events here (and_parts (ticket == here) (list_all (is_own here) events) every).1
@@ -188,6 +195,7 @@ no_step_no_fault (Rests who ∷ events) none = no_step_no_fault events none
 no_step_no_fault (Served ticket place fault ∷ events) none = absurd (cc)
 no_step_no_fault (Worked place fault ∷ events) none = absurd (cc)
 
+-- events without a step of the head hold no fault of anybody
 pub no_step_owned : (st : State) (owner : Owner) (events : List Event) → filter_map step_to events ≡ [] → owned_from st owner events ≡ []
 no_step_owned st owner [] none = refl
 no_step_owned st owner (Wants ticket place ∷ events) none = no_step_owned (after st (Wants ticket place)) owner events none

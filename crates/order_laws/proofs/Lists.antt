@@ -6,18 +6,21 @@ use Rattle.std.proofs.lemmas.List.Elements.{filter_map-append}
 use Rattle.std.proofs.lemmas.Option.{same_Some}
 use Rattle.event_laws.specs.Trail.{both}
 
+-- one more at the end of a list gets the next number
 pub enumerate-push : {X : Type 0} (n : ℕ) (xs : List X) (y : X) → enumerate_from n (xs ++ y ∷ []) ≡ enumerate_from n xs ++ (n + length xs, y) ∷ []
 enumerate-push n [] y = let same : n ≡ n + 0 = omega arith in ap (λ m. (m, y) ∷ []) same
 enumerate-push n (x ∷ xs) y =
     let same : n + 1 + length xs ≡ n + length (x ∷ xs) = omega arith in
     ap (λ l. (n, x) ∷ l) (enumerate-push (n + 1) xs y ∙ ap (λ m. enumerate_from (n + 1) xs ++ (m, y) ∷ []) same)
 
+-- one more at the end of two lists of one length makes one pair more
 pub zip-push : {X Y : Type 0} (xs : List X) (ys : List Y) (x : X) (y : Y) → length ys ≡ length xs → zip (xs ++ x ∷ []) (ys ++ y ∷ []) ≡ zip xs ys ++ (x, y) ∷ []
 zip-push [] [] x y e = refl
 zip-push [] (b ∷ ys) x y e = absurd (omega (arith, e))
 zip-push (a ∷ xs) [] x y e = absurd (omega (arith, e))
 zip-push (a ∷ xs) (b ∷ ys) x y e = ap (λ l. (a, b) ∷ l) (zip-push xs ys x y (omega (arith, e)))
 
+-- a pair at a place is what both lists have there
 pub zip-get : {X Y : Type 0} (xs : List X) (ys : List Y) (k : ℕ) → slice_get (zip xs ys) k ≡ both (slice_get xs k) (slice_get ys k)
 zip-get [] ys k = by (slice_get ys k)
   where
@@ -33,6 +36,7 @@ zip-get (x ∷ xs) [] (suc k) = by (slice_get xs k)
 zip-get (x ∷ xs) (y ∷ ys) zero = refl
 zip-get (x ∷ xs) (y ∷ ys) (suc k) = zip-get xs ys k
 
+-- a range that is one longer has one number more at its end
 pub range-push : (a n : ℕ) → range_with_len a (suc n) ≡ range_with_len a n ++ (a + n) ∷ []
 range-push a zero = let same : a ≡ a + 0 = omega arith in ap (λ m. m ∷ []) same
 range-push a (suc n) =
@@ -73,6 +77,7 @@ any_filter p q (x ∷ xs) h = by (q x) (p x) h (any_filter p q xs)
         at false true is h = more (sym (ap (λ c. c || list_any p (filter q xs)) is) ∙ h)
         at false false is h = more h
 
+-- a test that implies another finds the same after filtering by that other
 pub any_filter_same : {X : Type 0} (p q : X → Bool) (xs : List X) → ((x : X) → p x ≡ true → q x ≡ true) → list_any p (filter q xs) ≡ list_any p xs
 any_filter_same p q [] w = refl
 any_filter_same p q (x ∷ xs) w = by (q x) (p x) refl refl (any_filter_same p q xs w)
@@ -87,6 +92,7 @@ any_filter_same p q (x ∷ xs) w = by (q x) (p x) refl refl (any_filter_same p q
 pub after_first-here : {X : Type 0} (p : X → Bool) (x : X) (xs : List X) → p x ≡ true → after_first p (x ∷ xs) ≡ xs
 after_first-here p x xs is = ap (λ (b : Bool). drop (cond (not b) (1 + Rattle.std.specs.List.prefix_len (λ y. not (p y)) xs) 0 + 1) (x ∷ xs)) is
 
+-- where the first doesn't pass, what comes after the first that passes lies in the rest
 pub after_first-later : {X : Type 0} (p : X → Bool) (x : X) (xs : List X) → p x ≡ false → after_first p (x ∷ xs) ≡ after_first p xs
 after_first-later p x xs is =
     ap (λ (b : Bool). drop (cond (not b) (1 + Rattle.std.specs.List.prefix_len (λ y. not (p y)) xs) 0 + 1) (x ∷ xs)) is

@@ -32,15 +32,18 @@ kinds_by who w (kind ∷ kinds) = by (who == w) refl (kinds_by who w kinds)
     by true is more = ap (λ l. kind ∷ l) (more ∙ ap (λ b. cond b kinds []) is)
     by false is more = more ∙ ap (λ b. cond b kinds []) is
 
+-- the marks of a call are added to those of its own session alone
 pub kinds_more : (who w : ℕ) (marks : List Mark) (kinds : List MarkKind) → kinds_of w (marks ++ map (mark who) kinds) ≡ kinds_of w marks ++ cond (who == w) kinds []
 kinds_more who w marks kinds =
     ap (map (λ (m : Mark). m.kind)) (filter-append (λ (m : Mark). m.who == w) marks (map (mark who) kinds))
     ∙ map-append (λ (m : Mark). m.kind) (filter (λ (m : Mark). m.who == w) marks) (filter (λ (m : Mark). m.who == w) (map (mark who) kinds))
     ∙ ap (λ l. kinds_of w marks ++ l) (kinds_by who w kinds)
 
+-- the phase of a session goes on by the marks of its own call alone
 pub phase_more : (who w : ℕ) (marks : List Mark) (kinds : List MarkKind) → phase w (marks ++ map (mark who) kinds) ≡ fold after (phase w marks) (cond (who == w) kinds [])
 phase_more who w marks kinds = ap (fold after idle) (kinds_more who w marks kinds) ∙ fold-append after idle (kinds_of w marks) (cond (who == w) kinds [])
 
+-- the places in a session's marks grow by those of its own call alone
 pub places_more : (who w : ℕ) (marks : List Mark) (kinds : List MarkKind) → places_of w (marks ++ map (mark who) kinds) ≡ places_of w marks ++ filter_map place_in (cond (who == w) kinds [])
 places_more who w marks kinds = ap (filter_map place_in) (kinds_more who w marks kinds) ∙ filter_map-append place_in (kinds_of w marks) (cond (who == w) kinds [])
 
@@ -70,6 +73,7 @@ pub record IsOwed (ph : Phase) (n : ℕ) : Type 0 where
   pub drains : ph ≡ draining → 1 ≤ n
   pub drained : 1 ≤ n → ph ≡ draining
 
+-- a session's phase drains just as the drains and faults that it is owed say
 pub to_owed : (sessions : ℕ) (history : List Placed) (replies : List (Option Reply)) (st : State) (kept : List (ℕ × Twin)) (marks : List Mark) → AreMarks sessions history replies st kept marks
     → (who : ℕ) → IsOwed (phase who marks) (owed st kept who)
 to_owed sessions history replies st kept marks are who = record {
@@ -96,6 +100,7 @@ from_cond : (b : Bool) (kinds : List MarkKind) (x : ℕ × Reply) → Contains (
 from_cond true kinds x has = has
 from_cond false kinds x has = absurd (omega (arith, has.1))
 
+-- marks that a call may make leave the marks such as calls make
 pub marks_more : (sessions who : ℕ) (old new : List Placed) (before now : List (Option Reply)) (a b : State) (kept_before kept : List (ℕ × Twin)) (marks : List Mark) (kinds : List MarkKind)
     → AreMarks sessions old before a kept_before marks → AreMore sessions who old new before now b kept marks kinds → AreMarks sessions new now b kept (marks ++ map (mark who) kinds)
 marks_more sessions who old new before now a b kept_before kept marks kinds are more = record {
@@ -136,6 +141,7 @@ marks_stay sessions history before now a b kept_before kept marks are stay same 
 
 -- ---- marks that calls make
 
+-- a course of marks is one just if its front is, and the rest is from there on
 pub course-append : (ph : Phase) (xs ys : List MarkKind) → is_course_from ph (xs ++ ys) ≡ (is_course_from ph xs && is_course_from (fold after ph xs) ys)
 course-append ph [] ys = refl
 course-append ph (kind ∷ xs) ys = by (goes_on ph kind) (course-append (after ph kind) xs ys)

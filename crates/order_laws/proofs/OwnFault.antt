@@ -86,6 +86,7 @@ by_step st all who k counts (one_step e answers is every) trail owns waits =
     ∙ ap (λ (l : List Waiter). list_any (wants_it k) st.requests || list_any (syncs_it k) l) (f.syncs ∙ sym f.none_before) ∙ waits in
     subst (λ l. Brought st (e ∷ l) k None) (sym none) (record { waits = asked; fault = sym (f.unowned k); synced = sym (ap (λ b. b || false) (f.unanswered k)) })
 
+-- a step that fails for a session's own drain brings no reply to a place that waits
 pub own_fault : (st : State) (made : List Event) (kept : List (ℕ × Twin)) (who k : ℕ) (counts : Twin) → AreOfStep made → is_trail_from st made ≡ true
     → (0 < length (kept_for who kept) → made ≡ []) → kept_for who (kept ++ drain_faults_from st made) ≡ counts ∷ [] → is_waiting st k ≡ true → Brought st made k None
 own_fault st made kept who k counts shape trail first owns waits =

@@ -29,6 +29,7 @@ use Rattle.order_laws.proofs.Turning.{tickets, turns_rise}
 
 -- ---- trails
 
+-- two lists make a trail just if the first does, and the second does from where it ends
 pub trail_more : (st : State) (xs ys : List Event) → is_trail_from st (xs ++ ys) ≡ (is_trail_from st xs && is_trail_from (fold after st xs) ys)
 trail_more st [] ys = refl
 trail_more st (e ∷ xs) ys = by (allows st e) (trail_more (after st e) xs ys)
@@ -38,6 +39,7 @@ trail_more st (e ∷ xs) ys = by (allows st e) (trail_more (after st e) xs ys)
     by true more = more
     by false more = refl
 
+-- the state after two lists of events is the second's from where the first ends
 pub after_more : (events added : List Event) → after_all (events ++ added) ≡ fold after (after_all events) added
 after_more events added = fold-append after Rattle.event_laws.specs.Waiting.start events added
 
@@ -87,6 +89,7 @@ wants_plain here (place ∷ places) = and_from (here == here) (list_all (is_plai
 
 -- ---- all that a submission adds
 
+-- what the events of a placement say: they are its own, of its sync, its answer and its waits
 pub record AreOwn (calls : Calls) (history : List Placed) (p : Placed) (st : State) (added : List Event) : Type 0 where
   pub own : list_all (is_own (length history)) added ≡ true
   pub syncs : done_syncs calls (history ++ p ∷ []) ≡ done_syncs calls history ++ filter_map syncs_ticket added
@@ -179,6 +182,7 @@ sync_own calls history p st places answer once fate call trail =
 no_events : (calls : Calls) (history : List Placed) (p : Placed) (st : State) (added : List Event) → added ≡ [] → done_syncs calls (history ++ p ∷ []) ≡ done_syncs calls history → AreOwn calls history p st added
 no_events calls history p st added none same = subst (AreOwn calls history p st) (sym none) (plain_own calls history p st [] refl same)
 
+-- the events of a submission are its placement's own
 pub submitted : (calls : Calls) (history : List Placed) (p : Placed) (events : List Event) (fate : Fate) (call : Option Call) (added : List Event) → p.fate ≡ fate → call_at calls p ≡ call
     → is_trail_from (after_all events) added ≡ true → IsOfFate fate (length history) events call added → AreOwn calls history p (after_all events) added
 submitted calls history p events fates.Void call added fate is trail of = no_events calls history p (after_all events) added of (done_push_other calls history p fates.Void call fate is (λ e. absurd (cc)))
@@ -197,6 +201,7 @@ submitted calls history p events fates.Done (Some call) added fate is trail of =
 
 -- ---- a ticket that waits is not answered
 
+-- once the syncs of a ticket are gone, none of that ticket is left
 pub none_left : (ticket : ℕ) (syncs : List Waiter) → list_any (syncs_it ticket) (filter (λ (s : Waiter). not (s.ticket == ticket)) syncs) ≡ false
 none_left ticket [] = refl
 none_left ticket (s ∷ syncs) = by (s.ticket == ticket) refl (none_left ticket syncs)
@@ -221,6 +226,7 @@ sync_waits here st places (op ∷ stand) rests waits =
 none_answered : (here : ℕ) (added : List Event) → added ≡ [] → list_any (answers here) added ≡ false
 none_answered here added none = ap (list_any (answers here)) none
 
+-- a place that waits after its own submission wasn't answered by it
 pub unanswered_waits : (here : ℕ) (events : List Event) (call : Option Call) (added : List Event) → is_waiting (after_all events) here ≡ false → is_waiting (fold after (after_all events) added) here ≡ true
     → IsOfDone here events call added → list_any (answers here) added ≡ false
 unanswered_waits here events (Some Sync) added rests waits of =

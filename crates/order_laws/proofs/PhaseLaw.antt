@@ -186,6 +186,7 @@ plain_by : {D : Type 0} (first now : Drive) (v : View D) → IsKeptOrder first n
 plain_by first now v kept who =
     plain_phases who v.marks (kept.course who) (subst (λ l. is_rising l ≡ true) (sym (kept.orderly.marks.places who)) (picked_rise (λ p. p.who == who) 0 v.history))
 
+-- the phase of each session is what its marks say in plain words
 pub phases_plain : {D : Type 0} (drive : Ghosts D) → PhasesArePlain drive
 phases_plain drive v kept who = plain_by (seen drive v.fixed.first) (seen drive v.drive) v kept who
 
@@ -251,5 +252,6 @@ module _ {D : Type 0} (first now : Drive) (v : View D) (kept : IsKeptOrder first
   pub nothing_left : NothingIsLeft v
   nothing_left = (done, none_waits)
 
+-- nothing waits exactly where each reply was handed out, and nobody drains
 pub nothing_waits : {D : Type 0} (drive : Ghosts D) → NothingIsLeftWhereNothingWaits drive
 nothing_waits drive v kept = nothing_left (seen drive v.fixed.first) (seen drive v.drive) v kept

@@ -21,6 +21,7 @@ cond_option : (b : Bool) (n m : ℕ) → n ≡ m → cons_option (cond b (Some n
 cond_option true n m e = ap (λ k. k ∷ []) e
 cond_option false n m e = refl
 
+-- one more element adds its place just if it passes the test
 pub picked_push : {X : Type 0} (test : X → Bool) (xs : List X) (x : X) → picked test 0 (xs ++ x ∷ []) ≡ picked test 0 xs ++ cond (test x) (length xs ∷ []) []
 picked_push test xs x =
     ap (filter_map (λ e. cond (test e.1) (Some e.0) None)) (enumerate-push 0 xs x)
@@ -51,6 +52,7 @@ has_from test n (suc k) (x ∷ xs) =
     let same : n + 1 + k ≡ n + suc k = omega arith in
     has_cond (test x) n (n + suc k) (picked test (n + 1) xs) (λ is. ne_eqb n (n + suc k) (λ e. omega (arith, e))) ∙ ap (λ m. has m (picked test (n + 1) xs)) (sym same) ∙ has_from test (n + 1) k xs
 
+-- a place is picked just if the element there passes the test
 pub has_picked : {X : Type 0} (test : X → Bool) (xs : List X) (k : ℕ) → has k (picked test 0 xs) ≡ passes test (slice_get xs k)
 has_picked test xs k = let same : 0 + k ≡ k = omega arith in ap (λ m. has m (picked test 0 xs)) (sym same) ∙ has_from test 0 k xs
 
@@ -64,6 +66,7 @@ below_all test n m (x ∷ xs) less = by (test x) (below_all test n (m + 1) xs (o
     by true rest = and_from (nat_lt n m) (list_all (nat_lt n) (picked test (m + 1) xs)) (lt-ltb n m less) rest
     by false rest = rest
 
+-- picked places come in rising order
 pub picked_rise : {X : Type 0} (test : X → Bool) (n : ℕ) (xs : List X) → is_rising (picked test n xs) ≡ true
 picked_rise test n [] = refl
 picked_rise test n (x ∷ xs) = by (test x) (picked_rise test (n + 1) xs)

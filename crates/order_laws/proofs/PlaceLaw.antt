@@ -45,12 +45,14 @@ pub data AreKinds (here : ℕ) : List MarkKind → Option Reply → Type 0 where
   placed_alone : AreKinds here (places here ∷ []) None
   handed_too : (reply : Reply) → AreKinds here (places here ∷ hands here reply ∷ []) (Some reply)
 
+-- the marks of a submission place its call once, at its own place
 pub kinds_place : (here : ℕ) (kinds : List MarkKind) (reply : Option Reply) → AreKinds here kinds reply → (b : Bool) → cond b (here ∷ []) [] ≡ filter_map place_in (cond b kinds [])
 kinds_place here kinds reply placed_alone true = refl
 kinds_place here kinds reply placed_alone false = refl
 kinds_place here kinds reply (handed_too r) true = refl
 kinds_place here kinds reply (handed_too r) false = refl
 
+-- a reply that a submission hands out is its own, at its own place
 pub kinds_hand : (here : ℕ) (kinds : List MarkKind) (reply : Option Reply) → AreKinds here kinds reply → (k : ℕ) (r : Reply) → Contains (filter_map hand_in kinds) (k, r) → (here ≡ k) × (reply ≡ Some r)
 kinds_hand here kinds reply placed_alone k r has = absurd (omega (arith, has.1))
 kinds_hand here kinds reply (handed_too given) k r (zero, less, is) = (ap (λ e. e.0) is, ap (λ e. Some e.1) is)
@@ -84,6 +86,7 @@ module _ {D : Type 0} (first now : Drive) (old : View D) (p : Placed) (reply : O
     pub synced : is_synced reply ≡ list_any (answers (length old.history)) added
     pub kinds_are : AreKinds (length old.history) kinds reply
 
+  -- the volume with one more placement, its reply, its events and its marks
   abbrev pub placed_view : Option Moment → Option ℕ → List Op → List Kept → View D
   placed_view next on ops cached = record old {
     next = next;
@@ -198,6 +201,7 @@ module _ {D : Type 0} (first now : Drive) (old : View D) (p : Placed) (reply : O
       (subst (λ (s : State). is_rising ((synced_places old.replies ++ filter_map synced_ticket added) ++ tickets s.syncs) ≡ true) (sym (after_more old.events added))
       (c.own.rises (synced_places old.replies) c.kept.rising (syncs_before (after_all old.events) old.replies (length old.history) c.kept.count c.kept.orderly.waiting)))
 
+  -- a submission that places its call keeps the order
   pub placing_keeps : CanPlace → (next : Option Moment) (on : Option ℕ) (standing : List Op) (cached : List Kept) → map headed standing ≡ ops (after_all (old.events ++ added)) → IsCache (old.events ++ added) cached → IsKeptOrder first now (placed_view next on standing cached)
   placing_keeps c next on standing cached stand cache = record {
     orderly = orderly c next on standing cached stand cache;

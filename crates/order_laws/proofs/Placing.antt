@@ -52,9 +52,11 @@ count_places n who (p ∷ history) = by (p.who == who) (count_places (n + 1) who
     by true e = ap suc e
     by false e = e
 
+-- a session has as many places as it has numbers of calls
 pub as_many_places : (who : ℕ) (history : List Placed) → length (placed_by who history) ≡ length (numbers_of history who)
 as_many_places who history = count_places 0 who history
 
+-- one more placement adds its place to those of its own session alone
 pub places_push : (who : ℕ) (history : List Placed) (p : Placed) → placed_by who (history ++ p ∷ []) ≡ placed_by who history ++ cond (p.who == who) (length history ∷ []) []
 places_push who history p = picked_push (λ q. q.who == who) history p
 
@@ -64,6 +66,7 @@ abbrev pub is_sync : Option Call → Bool
 is_sync (Some Sync) = true
 is_sync _ = false
 
+-- a sync that is done adds its place to the syncs that are done
 pub done_push_sync : (calls : Calls) (history : List Placed) (p : Placed) → p.fate ≡ fates.Done → call_at calls p ≡ Some Sync
     → done_syncs calls (history ++ p ∷ []) ≡ done_syncs calls history ++ length history ∷ []
 done_push_sync calls history p fate call =
@@ -74,6 +77,7 @@ done_push_sync calls history p fate call =
     same : (n : ℕ) → (0 + n) ∷ [] ≡ n ∷ []
     same n = let e : 0 + n ≡ n = omega arith in ap (λ k. k ∷ []) e
 
+-- a placement that isn't a sync that is done adds none to those
 pub done_push_other : (calls : Calls) (history : List Placed) (p : Placed) (fate : Fate) (call : Option Call) → p.fate ≡ fate → call_at calls p ≡ call → (fate ≡ fates.Done → is_sync call ≡ false)
     → done_syncs calls (history ++ p ∷ []) ≡ done_syncs calls history
 done_push_other calls history p fates.Void call is_fate is_call other =

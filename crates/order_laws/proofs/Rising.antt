@@ -12,6 +12,7 @@ has k xs = list_any (λ x. x == k) xs
 
 -- ---- tests of all
 
+-- what holds of all numbers holds of one among them
 pub all_has : (p : ℕ → Bool) (xs : List ℕ) (k : ℕ) → list_all p xs ≡ true → has k xs ≡ true → p k ≡ true
 all_has p [] k every there = absurd (cc)
 all_has p (x ∷ xs) k every there = by (x == k) refl there (λ every there. all_has p xs k every there)
@@ -23,12 +24,14 @@ all_has p (x ∷ xs) k every there = by (x == k) refl there (λ every there. all
     by true is there more = subst (λ n. p n ≡ true) (eqb-true x k is) parts.0
     by false is there more = more parts.1 there
 
+-- a test that each number among them passes is passed by all
 pub all_from : (p : ℕ → Bool) (xs : List ℕ) → ((k : ℕ) → has k xs ≡ true → p k ≡ true) → list_all p xs ≡ true
 all_from p [] each = refl
 all_from p (x ∷ xs) each =
     and_from (p x) (list_all p xs) (each x (or_left (x == x) (has x xs) (eq-eqb x x refl)))
     (all_from p xs (λ k there. each k (or_right (x == k) (has k xs) there)))
 
+-- a fact that holds of each number among them holds of all
 pub All_from : (P : ℕ → Type 0) (xs : List ℕ) → ((k : ℕ) → has k xs ≡ true → P k) → All P xs
 All_from P [] each = All-nil P
 All_from P (x ∷ xs) each =
@@ -40,6 +43,7 @@ all_front : (p : ℕ → Bool) (xs ys : List ℕ) → list_all p (xs ++ ys) ≡ 
 all_front p [] ys h = refl
 all_front p (x ∷ xs) ys h = let parts = and_parts (p x) (list_all p (xs ++ ys)) h in and_from (p x) (list_all p xs) parts.0 (all_front p xs ys parts.1)
 
+-- the front of rising numbers rises
 pub rising_front : (xs ys : List ℕ) → is_rising (xs ++ ys) ≡ true → is_rising xs ≡ true
 rising_front [] ys h = refl
 rising_front (x ∷ xs) ys h =
@@ -51,6 +55,7 @@ all_without p [] y ys h = (and_parts (p y) (list_all p ys) h).1
 all_without p (x ∷ xs) y ys h =
     let parts = and_parts (p x) (list_all p (xs ++ y ∷ ys)) h in and_from (p x) (list_all p (xs ++ ys)) parts.0 (all_without p xs y ys parts.1)
 
+-- rising numbers without one of them still rise
 pub rising_without : (xs : List ℕ) (y : ℕ) (ys : List ℕ) → is_rising (xs ++ y ∷ ys) ≡ true → is_rising (xs ++ ys) ≡ true
 rising_without [] y ys h = (and_parts (list_all (nat_lt y) ys) (is_rising ys) h).1
 rising_without (x ∷ xs) y ys h =
@@ -61,6 +66,7 @@ all_push : (p : ℕ → Bool) (xs : List ℕ) (z : ℕ) → list_all p xs ≡ tr
 all_push p [] z h last = and_from (p z) true last refl
 all_push p (x ∷ xs) z h last = let parts = and_parts (p x) (list_all p xs) h in and_from (p x) (list_all p (xs ++ z ∷ [])) parts.0 (all_push p xs z parts.1 last)
 
+-- a number above all rising ones may come behind them
 pub rising_push : (xs : List ℕ) (z : ℕ) → is_rising xs ≡ true → list_all (λ x. nat_lt x z) xs ≡ true → is_rising (xs ++ z ∷ []) ≡ true
 rising_push [] z h below = refl
 rising_push (x ∷ xs) z h below =
@@ -97,6 +103,7 @@ tails x xs ys rx ry same k = by (x == k) refl (has k xs) (has k ys) refl refl (s
     by true is false true hc hd e = absurd (omega (arith, below_head x k ys ry hd, eqb-true x k is))
     by true is false false hc hd e = hc ∙ sym hd
 
+-- two lists of rising numbers with the same members are the same
 pub rising_same : (xs ys : List ℕ) → is_rising xs ≡ true → is_rising ys ≡ true → ((k : ℕ) → has k xs ≡ has k ys) → xs ≡ ys
 rising_same [] [] rx ry same = refl
 rising_same [] (y ∷ ys) rx ry same = absurd (let no = same y ∙ or_left (y == y) (has y ys) (eq-eqb y y refl) in cc)

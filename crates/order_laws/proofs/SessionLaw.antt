@@ -42,9 +42,11 @@ pub record IsOfDrain (e : Event) : Type 0 where
   pub syncs : (st : State) → (after_event st e).syncs ≡ st.syncs
   pub requests : (st : State) → (after_event st e).requests ≡ st.requests
 
+-- the begin of a drain is an event of a drain
 pub drains_is : (who : ℕ) → IsOfDrain (Drains who)
 drains_is who = record { stepless = refl; begins_none = refl; answers_none = refl; waits = λ st k. refl; syncs = λ st. refl; requests = λ st. refl }
 
+-- the end of a drain is an event of a drain
 pub rests_is : (who : ℕ) → IsOfDrain (Rests who)
 rests_is who = record { stepless = refl; begins_none = refl; answers_none = refl; waits = λ st k. refl; syncs = λ st. refl; requests = λ st. refl }
 
@@ -63,6 +65,7 @@ module _ {D : Type 0} (first now : Drive) (v : View D) (who : ℕ) (e : Event) (
     pub others : (w : ℕ) → (who == w) ≡ false → owed (after_event (after_all v.events) e) v.kept w ≡ owed (after_all v.events) v.kept w
     pub more : after (phase who v.marks) kind ≡ draining → length (places_of who v.marks) < length (calls_of v.fixed.script who)
 
+  -- the volume with one more event and mark of a session's drain
   abbrev pub drained_view : Option Moment → Option ℕ → List Op → List Kept → View D
   drained_view next on ops cached = record v {
     next = next;
@@ -137,6 +140,7 @@ module _ {D : Type 0} (first now : Drive) (v : View D) (who : ℕ) (e : Event) (
       by true is h = subst (λ n. after (phase n v.marks) kind ≡ draining → length (places_of n v.marks) < length (calls_of v.fixed.script n)) (eqb-true who w is) c.more h
       by false is h = c.kept.more w h
 
+  -- a drain that begins or rests keeps the order
   pub draining_keeps : CanDrain → (next : Option Moment) (on : Option ℕ) (standing : List Op) (cached : List Kept) → map headed standing ≡ ops (after_all (v.events ++ e ∷ [])) → IsCache (v.events ++ e ∷ []) cached → IsKeptOrder first now (drained_view next on standing cached)
   draining_keeps c next on standing cached stand cache = record {
     orderly = orderly c next on standing cached stand cache;
@@ -156,6 +160,7 @@ module _ {D : Type 0} (first now : Drive) (v : View D) (who : ℕ) (e : Event) (
 
 -- ---- how often a session drains
 
+-- one more drain counts for its own session alone
 pub drains_more : (w who : ℕ) (drains : List ℕ) → length (filter (λ v. v == w) (drains ++ who ∷ [])) ≡ length (filter (λ v. v == w) drains) + cond (who == w) 1 0
 drains_more w who drains = ap length (filter-append (λ v. v == w) drains (who ∷ [])) ∙ length-append (filter (λ v. v == w) drains) (filter (λ v. v == w) (who ∷ [])) ∙ ap (λ n. length (filter (λ v. v == w) drains) + n) (one (who == w))
   where
@@ -163,6 +168,7 @@ drains_more w who drains = ap length (filter-append (λ v. v == w) drains (who �
     one true = refl
     one false = refl
 
+-- without a session's drains that session has none, and the others have theirs
 pub drains_less : (w who : ℕ) (drains : List ℕ) → length (filter (λ v. v == w) (filter (λ v. not (v == who)) drains)) ≡ cond (who == w) 0 (length (filter (λ v. v == w) drains))
 drains_less w who [] = by (who == w)
   where
@@ -194,11 +200,13 @@ drains_less w who (x ∷ drains) = by (x == who) refl (who == w) refl (drains_le
 -- ---- a reply that is handed out
 
 module _ {D : Type 0} (first now : Drive) (v : View D) (who ticket : ℕ) (reply : Reply) where
+  -- a session waits for a ticket, and the reply of that ticket is there
   pub record CanHand : Type 0 where
     pub kept : IsKeptOrder first now v
     pub waiting : phase who v.marks ≡ waits ticket
     pub there : slice_get v.replies ticket ≡ Some (Some reply)
 
+  -- the volume with one more mark, of the reply that is handed out
   abbrev pub handed_view : View D
   handed_view = record v { marks = v.marks ++ map (mark who) (hands ticket reply ∷ []) }
 
@@ -247,6 +255,7 @@ module _ {D : Type 0} (first now : Drive) (v : View D) (who ticket : ℕ) (reply
       by true is e same = absurd (let h : idle ≡ draining = sym (idle_then c w is) ∙ e in cc)
       by false is e same = omega (arith, c.kept.more w e, ap length (same ∙ append-nil (places_of w v.marks)))
 
+  -- a reply that is handed out keeps the order
   pub handing_keeps : CanHand → IsKeptOrder first now handed_view
   handing_keeps c = record {
     orderly = record {

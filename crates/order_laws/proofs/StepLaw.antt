@@ -69,6 +69,7 @@ module _ {D : Type 0} (first before now : Drive) (old : View D) (new : List (Opt
     pub limits : now.limits ≡ before.limits
     pub untold : before.held ≡ None → now.held ≡ None
 
+  -- the volume after a step of the head with the answers behind it
   abbrev pub stepped_view : D → Option Moment → Option ℕ → List Op → List Kept → View D
   stepped_view drive next on ops cached = record old {
     drive = drive;
@@ -159,6 +160,7 @@ module _ {D : Type 0} (first before now : Drive) (old : View D) (new : List (Opt
     cached = cache;
   }
 
+  -- a step of the head with the answers behind it keeps the order
   pub stepping_keeps : CanStep → (drive : D) (next : Option Moment) (on : Option ℕ) (standing : List Op) (cached : List Kept) → map headed standing ≡ ops (after_all (old.events ++ added)) → IsCache (old.events ++ added) cached → IsKeptOrder first now (stepped_view drive next on standing cached)
   stepping_keeps c drive next on standing cached stand cache = record {
     orderly = orderly c drive next on standing cached stand cache;

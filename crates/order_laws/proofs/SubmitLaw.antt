@@ -109,6 +109,7 @@ cached_on : {D : Type 0} (drive : Ghosts D) (old new : View D) (who nth : ℕ) (
 cached_on drive old new who nth answer kept s =
     submits_stay answer (standing (given old (seen drive old.fixed.first)) old.on old.history (length old.history)) old.events s.added old.cached new.cached (call_of old who nth) kept.orderly.cached s.asks
 
+-- each submission keeps the order
 pub submissions_keep : {D : Type 0} (drive : Ghosts D) → SubmissionsKeepOrder drive
 submissions_keep drive old new who nth (submitted.Ready reply) kept can s side =
     places_one drive old new who nth (fate_for reply) (Some reply) s.added (places (length old.history) ∷ hands (length old.history) reply ∷ []) kept can s.fixed s.drive s.kept s.placing s.adds s.of_it s.marks (handed_too reply)

@@ -35,6 +35,7 @@ rises_more a b c (t ∷ xs) ys first then = (first.0, first.1, rises_more t.afte
 
 -- ---- owners
 
+-- the faults that one owns in a longer trail are those before and those in what was added
 pub owned_more : (owner : Owner) (events added : List Event) → owned_by owner (events ++ added) ≡ owned_by owner events ++ owned_from (after_all events) owner added
 owned_more owner events added =
     ap (λ l. filter_map (λ e. cond (is_of owner e.0) (Some e.1) None) (filter_map (λ o. o) l)) (scan-append after (λ st e. both (owner_of st e) (fault_of e)) start events added)
@@ -122,6 +123,7 @@ sessions_told events added history old new kept turned were who =
         by None o = inr (turned.done k p h o)
         by (Some reply) o = inl (same_Some b (Some reply) (sym n ∙ (turned.each k reply o).0))
 
+-- over a turn each fault is still told to its owner, or kept for its session
 pub faults_turn : (events added : List Event) (history : List Placed) (old new : List (Option Reply)) (kept : List (ℕ × Twin)) (first before now : ℕ)
     → AreTold (after_all events) added history old new → AreRises before now (filter_map fault_of added) → AreFaults history events old kept first before
     → AreFaults history (events ++ added) new (kept ++ drain_faults_from (after_all events) added) first now
@@ -164,6 +166,7 @@ cond_none : {X : Type 0} (b : Bool) (o : Option X) → o ≡ None → cons_optio
 cond_none true o e = ap (λ o. cons_option o []) e
 cond_none false o e = refl
 
+-- one more placement without a fault leaves each fault told to its owner
 pub faults_push : (events added : List Event) (history : List Placed) (replies : List (Option Reply)) (kept : List (ℕ × Twin)) (p : Placed) (reply : Option Reply) (first now : ℕ)
     → length replies ≡ length history → told reply ≡ None → ((owner : Owner) → owned_from (after_all events) owner added ≡ []) → filter_map fault_of added ≡ []
     → AreFaults history events replies kept first now → AreFaults (history ++ p ∷ []) (events ++ added) (replies ++ reply ∷ []) kept first now
@@ -179,6 +182,7 @@ faults_push events added history replies kept p reply first now count none unown
 
 -- ---- events without faults alone
 
+-- events without a fault leave each fault told to its owner
 pub faults_same : (events added : List Event) (history : List Placed) (replies : List (Option Reply)) (kept : List (ℕ × Twin)) (first now : ℕ)
     → ((owner : Owner) → owned_from (after_all events) owner added ≡ []) → filter_map fault_of added ≡ []
     → AreFaults history events replies kept first now → AreFaults history (events ++ added) replies kept first now
@@ -202,6 +206,7 @@ kept_gone who (x ∷ kept) = by (x.0 == who) refl (kept_gone who kept)
     by true is rest = rest
     by false is rest = ap (λ c. cons_option (cond c (Some x.1) None) (kept_for who (without_session who kept))) is ∙ rest
 
+-- taking the faults of one session leaves those that are kept for another
 pub kept_others : (who w : ℕ) (kept : List (ℕ × Twin)) → (who == w) ≡ false → kept_for w (without_session who kept) ≡ kept_for w kept
 kept_others who w [] other = refl
 kept_others who w (x ∷ kept) other = by (x.0 == who) refl (kept_others who w kept other)

@@ -40,6 +40,7 @@ synced_then at (suc zero) reply o n = absurd (cc)
 synced_then at (suc (suc zero)) reply o n = subst (IsBrought (to_flush at) flushed 2) (same_Some (Some synced) reply n) (record { waits = refl; fault = refl; synced = refl })
 synced_then at (suc (suc (suc k))) reply o n = absurd (cc)
 
+-- a flush that is done, and the sync's answer behind it, are a turn in order
 pub flush_is : (at : Moment) → TurnsInOrder (drive_at 33 (Some (dp 11))) (drive_at 34 (Some (dp 11))) (before_flush at) (after_flush at 34 handed_marks (Some 3)) flushed
 flush_is at = record {
   follows = record { trail = refl; standing = refl };
@@ -47,21 +48,27 @@ flush_is at = record {
   moves = record { rises = λ k d less. absurd (omega (arith, less)); limits = refl; untold = λ e. e };
 }
 
+-- a sync's answer before its flush may not follow
 pub before_flush_isnt : (at : Moment) → ¬ MayFollow (before_flush at) (after_flush at 34 handed_marks (Some 3)) (Synced 2 ∷ Worked (dp 11) None ∷ [])
 before_flush_isnt at m = true≢false (sym m.trail)
 
+-- after its flush a sync isn't replied to with another answer
 pub other_reply_isnt : (at : Moment) → ¬ IsReplied (to_flush at) flushed 2 done
 other_reply_isnt at r = true≢false (sym r.synced)
 
+-- after its flush a sync isn't left without a reply
 pub no_reply_isnt : (at : Moment) → ¬ IsBrought (to_flush at) flushed 2 None
 no_reply_isnt at waits = true≢false (sym waits)
 
+-- as long as no event comes, a sync may stay without a reply
 pub waits_still_is : (at : Moment) → IsBrought (to_flush at) [] 2 None
 waits_still_is at = refl
 
+-- a sync isn't told that it is synced before its flush
 pub early_reply_isnt : (at : Moment) → ¬ IsReplied (to_flush at) [] 2 synced
 early_reply_isnt at r = true≢false r.waits
 
+-- where the first op of a sync fails, the sync is told that fault
 pub fault_is : IsReplied sync_stands (fails 0 1) 2 (fault 0 1)
 fault_is = record { waits = refl; fault = refl; synced = refl }
 
@@ -70,12 +77,15 @@ abbrev second : List Twin → ℕ
 second [] = 0
 second (t ∷ later) = t.after
 
+-- a sync isn't told another fault than the one that happened
 pub other_fault_isnt : ¬ IsReplied sync_stands (fails 0 1) 2 (fault 0 2)
 other_fault_isnt r = let two : ◌≡◌ {A = ℕ} 2 1 = ap second r.fault in absurd (omega (arith, two))
 
+-- a sync whose op failed isn't told that it is synced
 pub synced_though_failed_isnt : ¬ IsReplied sync_stands (fails 0 1) 2 synced
 synced_though_failed_isnt r = true≢false r.synced
 
+-- the fault of a session's drain isn't told to a place
 pub fault_of_nobody_isnt : ¬ IsReplied session_drains (fails 0 1) 2 (fault 0 1)
 fault_of_nobody_isnt r = let one : ◌≡◌ {A = ℕ} 1 0 = ap second r.fault in absurd (omega (arith, one))
 
@@ -83,30 +93,39 @@ one_rise : (before now : ℕ) (t : Twin) → IsRise before now t.before t.after 
 one_rise before now t rise zero d less = rise
 one_rise before now t rise (suc k) d less = absurd (omega (arith, less))
 
+-- a fault moves a drive on whose count rose by it
 pub rise_is : MovesOn (drive_at 30 None) (faulted 1 (drive_at 31 None)) (fails 0 1)
 rise_is = record { rises = one_rise 0 1 (twin 0 1) (record { lowest = omega arith; rose = omega arith; highest = omega arith }); limits = refl; untold = λ e. e }
 
+-- a fault whose two numbers are equal doesn't move a drive on
 pub no_rise_isnt : ¬ MovesOn (drive_at 30 None) (faulted 1 (drive_at 31 None)) (fails 1 1)
 no_rise_isnt m = absurd (omega (arith, (m.rises 0 (twin 0 0) (omega arith)).rose))
 
+-- a drain whose step failed doesn't go on as if it hadn't
 pub lost_fault_isnt : (at : Moment) (new : View ℕ) → ¬ IsDrained (draining_view at) new 1 (Worked (dp 22) (Some (twin 0 1)) ∷ []) drained.More
 lost_fault_isnt at new d = let one : ◌≡◌ {A = ℕ} 1 0 = ap second d.0 in absurd (omega (arith, one))
 
+-- a sync that finds nothing to wait for is answered at once that it is synced
 pub at_once_is : IsAnswered (after_all at_once) at_once 0 (submitted.Ready synced)
 at_once_is = (refl, refl, refl)
 
+-- such a sync isn't answered with something else
 pub done_at_once_isnt : ¬ IsAnswered (after_all at_once) at_once 0 (submitted.Ready done)
 done_at_once_isnt a = true≢false (sym a.2)
 
+-- such a sync isn't answered with a fault
 pub fault_at_once_isnt : ¬ IsAnswered (after_all at_once) at_once 0 (submitted.Ready (fault 0 1))
 fault_at_once_isnt a = let none : Some (twin 0 1) ≡ None = a.1 in cc
 
+-- such a sync isn't given a ticket
 pub waits_isnt : ¬ IsAnswered (after_all at_once) at_once 0 (submitted.Wait 0)
 waits_isnt a = true≢false (sym a)
 
+-- a sync whose ops stand isn't answered at once
 pub ready_while_waiting_isnt : ¬ IsAnswered sync_stands [] 2 (submitted.Ready done)
 ready_while_waiting_isnt a = true≢false a.0
 
+-- a clock that always gives the one moment gives it next
 pub moment_is : (at : Moment) → HasOneMoment (before_flush at)
 moment_is at = refl
 
@@ -179,6 +198,7 @@ unfolding kinds_of_two
 two_go_on true = refl
 two_go_on false = refl
 
+-- a volume with one write that was placed and has its reply is kept in order
 pub served_is : (at : Moment) → IsKept (served at)
 unfolding kinds_of_two
 served_is at = record {
@@ -220,65 +240,85 @@ abbrev first_number : List ℕ → ℕ
 first_number [] = 0
 first_number (n ∷ later) = n
 
+-- a history that begins with a session's second call is out of order
 pub later_number_isnt : (at : Moment) → ¬ IsOrdered (with_history (placed at 1 1 fates.Done ∷ []) (served at))
 later_number_isnt at o = let one : ◌≡◌ {A = ℕ} 1 0 = ap first_number (o.placed.in_order 1) in absurd (omega (arith, one))
 
+-- a history with a call more than the script has is out of order
 pub call_too_many_isnt : (at : Moment) → ¬ IsOrdered (with_history (placed at 1 0 fates.Done ∷ placed at 1 1 fates.Done ∷ []) (served at))
 call_too_many_isnt at o = let two : 2 ≤ 1 = o.placed.within 1 in absurd (omega (arith, two))
 
+-- a placement of a moment other than the run's one is out of order
 pub other_moment_isnt : (at other : Moment) → other ≢ at → ¬ IsOrdered (with_history (placed other 1 0 fates.Done ∷ []) (served at))
 other_moment_isnt at other differ o = differ (o.moments 0 (placed other 1 0 fates.Done) (omega arith))
 
+-- a rest of a session that doesn't drain is out of order
 pub rest_alone_isnt : (at : Moment) → ¬ IsOrdered (with_events (Rests 1 ∷ []) (served at))
 rest_alone_isnt at o = true≢false (sym o.trail)
 
+-- an op that stands though no event queued it is out of order
 pub op_left_isnt : (at : Moment) → ¬ IsOrdered (with_ops (Flush (dp 7) ∷ []) (served at))
 op_left_isnt at o = let one : ◌≡◌ {A = ℕ} 1 0 = ap length o.standing in absurd (omega (arith, one))
 
+-- a place without a reply for which nothing comes is out of order
 pub waits_for_nothing_isnt : (at : Moment) → ¬ IsOrdered (with_replies (None ∷ []) (served at))
 waits_for_nothing_isnt at o = true≢false (sym (o.waiting.none_yet 0 refl))
 
+-- a place with its reply that still waits for a block is out of order
 pub answered_early_isnt : (at : Moment) → ¬ IsOrdered (with_events (Wants 0 (dp 7) ∷ []) (served at))
 answered_early_isnt at o = let none : Some (Some done) ≡ Some None = o.waiting.waits 0 refl in cc
 
+-- a sync that is begun and answered for a write is out of order
 pub sync_of_nobody_isnt : (at : Moment) → ¬ IsOrdered (with_events (Syncs 0 ∷ Synced 0 ∷ []) (served at))
 sync_of_nobody_isnt at o = let one : ◌≡◌ {A = ℕ} 1 0 = ap length o.syncs in absurd (omega (arith, one))
 
+-- an acknowledgement of a place that no event answered is out of order
 pub ack_of_nothing_isnt : (at : Moment) → ¬ IsOrdered (with_acks (ack 0 30 ∷ []) (served at))
 ack_of_nothing_isnt at o = let one : ◌≡◌ {A = ℕ} 1 0 = ap length o.acks.places in absurd (omega (arith, one))
 
+-- a reply that says synced where no event answers it is out of order
 pub untold_ack_isnt : (at : Moment) → ¬ IsOrdered (with_replies (Some synced ∷ []) (served at))
 untold_ack_isnt at o = let one : ◌≡◌ {A = ℕ} 0 1 = ap length o.acks.places in absurd (omega (arith, one))
 
+-- a reply with a fault where no event failed is out of order
 pub untold_fault_isnt : (at : Moment) → ¬ IsOrdered (with_replies (Some (fault 0 1) ∷ []) (served at))
 untold_fault_isnt at o = let one : ◌≡◌ {A = ℕ} 1 0 = ap length (o.faults.calls 0) in absurd (omega (arith, one))
 
+-- a drive with fewer faults than at the start is out of order
 pub fewer_faults_isnt : (at : Moment) → ¬ IsOrderly (faulted 1 (drive_at 30 None)) (drive_at 30 None) (served at)
 fewer_faults_isnt at o = let less : 1 ≤ 0 = o.faults.rises in absurd (omega (arith, less))
 
+-- a placement without its mark is out of order
 pub mark_missing_isnt : (at : Moment) → ¬ IsOrdered (with_marks [] (served at))
 mark_missing_isnt at o = let one : ◌≡◌ {A = ℕ} 0 1 = ap length (o.marks.places 1) in absurd (omega (arith, one))
 
+-- a mark of a session that there isn't is out of order
 pub stranger_isnt : (at : Moment) → ¬ IsOrdered (with_marks (mark 1 (places 0) ∷ mark 1 (hands 0 done) ∷ mark 2 rests ∷ []) (served at))
 stranger_isnt at o = let two : 2 ≤ 1 = (o.marks.sessions_are 2 (mark 2 rests) (omega arith)).1 in absurd (omega (arith, two))
 
+-- a mark that hands out another reply than the one there is out of order
 pub other_hand_isnt : (at : Moment) → ¬ IsOrdered (with_marks (mark 1 (places 0) ∷ mark 1 (hands 0 synced) ∷ []) (served at))
 other_hand_isnt at o = let other : Some (Some done) ≡ Some (Some synced) = o.marks.hands 1 0 synced (0, omega arith, refl) in cc
 
+-- a mark of a drain that no event began is out of order
 pub drains_alone_isnt : (at : Moment) → ¬ IsOrdered (with_marks (mark 1 (places 0) ∷ mark 1 (hands 0 done) ∷ mark 1 begins ∷ []) (served at))
 drains_alone_isnt at o = ⊎_elim (λ now. true≢false (sym now)) (λ one. let none : ◌≡◌ {A = ℕ} 0 1 = one in absurd (omega (arith, none))) (o.marks.drains 1 refl)
 
+-- a drain that has no mark is out of order
 pub drain_unmarked_isnt : (at : Moment) → ¬ IsOrdered (with_events (queues 7 65 ++ Drains 1 ∷ []) (served at))
 drain_unmarked_isnt at o = let other : idle ≡ draining = o.marks.drained 1 (inl refl) in cc
 
+-- a drive with fewer positions than at the start is out of order
 pub smaller_drive_isnt : (at : Moment) → ¬ IsOrderly (drive_at 30 None) smaller (served at)
 smaller_drive_isnt at o = let four : ◌≡◌ {A = ℕ} 4 64 = ap (λ (l : Limits). l.cap_ip) o.limits in absurd (omega (arith, four))
 
+-- a drive that tells a cartridge where it told none at the start is out of order
 pub told_later_isnt : (at : Moment) → ¬ IsOrderly (drive_at 30 None) telling (served at)
 told_later_isnt at o = let none : telling.held ≡ None = o.untold refl in cc
 
 -- ---- the promise alone
 
+-- a volume whose call has no reply, neither there nor to come, is still orderly
 pub orderly_is : (at : Moment) → IsOrdered (without_reply at)
 orderly_is at = record {
   placed = record { in_order = λ who. numbers at (1 == who); within = λ who. within_calls at (1 == who) };
@@ -302,5 +342,6 @@ orderly_is at = record {
   cached = none_yet;
 }
 
+-- such a volume isn't kept in order, which asks for a reply of each placement
 pub kept_isnt : (at : Moment) → ¬ IsKept (without_reply at)
 kept_isnt at kept = absurd (omega (arith, kept.count))

@@ -83,6 +83,7 @@ turn_step drive most old new who ticket answer kept t side = record {
   untold = side.moves.untold;
 }
 
+-- each turn of a session that waits keeps the order
 pub turns_keep : {D : Type 0} (drive : Ghosts D) → TurnsKeepOrder drive
 turns_keep {D = D} drive most old new who ticket (turns.Ready reply) kept waiting t side =
     let first = seen drive old.fixed.first in
@@ -141,6 +142,7 @@ drain_step drive most old new who answer replies kept t side count each replied 
   untold = side.moves.untold;
 }
 
+-- each turn of a session that drains keeps the order
 pub drain_turns_keep : {D : Type 0} (drive : Ghosts D) → DrainTurnsKeepOrder drive
 drain_turns_keep {D = D} drive most old new who drained.Room kept draining_is t side =
     let first = seen drive old.fixed.first in

@@ -21,6 +21,7 @@ use Rattle.order_laws.proofs.Lists.{after_first-later, count_after}
 use Rattle.order_laws.proofs.Rising.{rising_without}
 use Rattle.order_laws.proofs.Frames.{is_turning, syncs_it, turning_waits, wants_it, worked_stays}
 
+-- a test for equal numbers gives the same in both orders
 pub eqb_flip : (a b : ℕ) → (a == b) ≡ (b == a)
 eqb_flip a b = by (a == b) (b == a) refl refl
   where
@@ -62,12 +63,14 @@ answers_turn (e ∷ events) every =
     and_from (is_turning e) (list_all is_turning events) (plain_answer e (All-head (λ a. is_answer a ≡ true) e events every)).turns
     (answers_turn events (All-tail (λ a. is_answer a ≡ true) e events every))
 
+-- answers alone hold no step of the head
 pub answers_step : (events : List Event) → All (λ a. is_answer a ≡ true) events → filter_map step_to events ≡ []
 answers_step [] every = refl
 answers_step (e ∷ events) every =
     ap (λ o. cons_option o (filter_map step_to events)) (plain_answer e (All-head (λ a. is_answer a ≡ true) e events every)).stepless
     ∙ answers_step events (All-tail (λ a. is_answer a ≡ true) e events every)
 
+-- the events of a step are all such as a turn brings
 pub all_turn : (events : List Event) → AreOfStep events → list_all is_turning events ≡ true
 all_turn events no_step = refl
 all_turn all (one_step e events is every) = and_from (is_turning e) (list_all is_turning events) (step_turns e is) (answers_turn events every)
@@ -96,6 +99,7 @@ abbrev pub owned_head : Owner → Option (Owner × Twin) → List Twin
 owned_head o None = []
 owned_head o (Some e) = cond (is_of o e.0) (e.1 ∷ []) []
 
+-- the faults that one owns are that of the first event, if it has one, and those of the rest
 pub owned-cons : (st : State) (o : Owner) (e : Event) (events : List Event)
     → owned_from st o (e ∷ events) ≡ owned_head o (both (owner_of st e) (fault_of e)) ++ owned_from (after st e) o events
 owned-cons st o e events = by (both (owner_of st e) (fault_of e))
@@ -111,10 +115,12 @@ owned-cons st o e events = by (both (owner_of st e) (fault_of e))
         at true = refl
         at false = refl
 
+-- without the second there are not both
 pub both_none : {X Y : Type 0} (o : Option X) → both {Y = Y} o None ≡ None
 both_none None = refl
 both_none (Some x) = refl
 
+-- where one passes a test, one passes each weaker test
 pub any_weaker : {X : Type 0} (p q : X → Bool) (xs : List X) → ((x : X) → p x ≡ true → q x ≡ true) → list_any p xs ≡ true → list_any q xs ≡ true
 any_weaker p q [] w h = h
 any_weaker p q (x ∷ xs) w h = by (p x) (w x) h (any_weaker p q xs w)
@@ -123,6 +129,7 @@ any_weaker p q (x ∷ xs) w h = by (p x) (w x) h (any_weaker p q xs w)
     by true one h more = or_left (q x) (list_any q xs) (one refl)
     by false one h more = or_right (q x) (list_any q xs) (more h)
 
+-- the request that a read takes away is of its ticket
 pub request_of : (st : State) (ticket : ℕ) (place : Place) (r : Request) → takes_request st ticket place r ≡ true → wants_it ticket r ≡ true
 request_of st ticket place r h =
     (and_parts (r.ticket == ticket) (same_place r.place place) (and_parts (asks ticket place r) (is_least (request_key st.head r) (keys st)) h).0).0
@@ -179,6 +186,7 @@ pub record MayCome (st : State) (e : Event) (events : List Event) : Type 0 where
   pub fits_now : fits st e ≡ true
   pub later : is_trail_from (after st e) events ≡ true
 
+-- the first event of a trail may come, and the rest goes on from there
 pub may_come : (st : State) (e : Event) (events : List Event) → is_trail_from st (e ∷ events) ≡ true → MayCome st e events
 may_come st e events h =
     let parts = and_parts (allows st e) (is_trail_from (after st e) events) h in
@@ -197,6 +205,7 @@ unowned st (e ∷ events) k h every rests =
     ∙ ap (λ l. l ++ owned_from (after st e) (of_call k) events) (unowned_head st e k may.fits_now parts.0 rests)
     ∙ unowned (after st e) events k may.later parts.1 (still_rests st e k parts.0 rests)
 
+-- a place that doesn't wait isn't answered in a turn
 pub unanswered : (st : State) (events : List Event) (k : ℕ) → is_trail_from st events ≡ true → list_all is_turning events ≡ true → is_waiting st k ≡ false → list_any (answers k) events ≡ false
 unanswered st [] k h every rests = refl
 unanswered st (e ∷ events) k h every rests =
@@ -207,9 +216,11 @@ unanswered st (e ∷ events) k h every rests =
 
 -- ---- sessions that drain
 
+-- the faults among events that sessions own by their drains, from a state on
 abbrev pub drain_faults_from : State → List Event → List (ℕ × Twin)
 drain_faults_from st events = filter_map (λ o. o) (scan after drain_fault st events)
 
+-- the faults kept for a session are that of the first, if it is its own, and those of the rest
 pub kept-cons : (who : ℕ) (o : Option (ℕ × Twin)) (rest : List (ℕ × Twin)) → kept_for who (cons_option o rest) ≡ kept_for who (option_to_list o) ++ kept_for who rest
 kept-cons who None rest = refl
 kept-cons who (Some x) rest = by (x.0 == who)
@@ -230,6 +241,7 @@ session_head who (Some (of_session w)) (Some c) = ap (λ b. cons_option (cond b 
     by true = refl
     by false = refl
 
+-- the faults kept for a session are those that it owns by its drain
 pub drained_is_owned : (st : State) (events : List Event) (who : ℕ) → kept_for who (drain_faults_from st events) ≡ owned_from st (of_session who) events
 drained_is_owned st [] who = refl
 drained_is_owned st (e ∷ events) who =
@@ -271,6 +283,7 @@ one_drains st (Syncs ticket) who is = absurd (cc)
 one_drains st (Drains w) who is = absurd (cc)
 one_drains st (Rests w) who is = absurd (cc)
 
+-- a turn turns each drain of a session that fails into one fault kept for it
 pub drains_are_kept : (st : State) (events : List Event) (who : ℕ) → list_all is_turning events ≡ true
     → drains_of (fold after st events) who + length (kept_for who (drain_faults_from st events)) ≡ drains_of st who
 drains_are_kept st [] who every = omega arith
@@ -283,6 +296,7 @@ drains_are_kept st (e ∷ events) who every =
 
 -- ---- syncs in the order of their places
 
+-- the tickets of the syncs that wait
 abbrev pub tickets : List Waiter → List ℕ
 tickets syncs = map (λ s. s.ticket) syncs
 
@@ -317,6 +331,7 @@ failed_rises : (head : Place) (arrived : ℕ) (requests : List Request) (done : 
 failed_rises head arrived requests done ended group [] drains front h = h
 failed_rises head arrived requests done ended group (s ∷ syncs) drains front h = rising_without front s.ticket (tickets syncs) h
 
+-- one event of a turn leaves the answered and waiting syncs in the order of their places
 pub one_rises : (st : State) (front : List ℕ) (e : Event) → fits st e ≡ true → is_turning e ≡ true → is_rising (front ++ tickets st.syncs) ≡ true
     → is_rising ((front ++ option_to_list (synced_ticket e)) ++ tickets (after st e).syncs) ≡ true
 one_rises st front (Synced ticket) fit is h = answered_rises st front ticket st.syncs fit h

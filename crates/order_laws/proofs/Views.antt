@@ -44,6 +44,7 @@ view_is a b fixed drive next history replies acks events marks kept on ops cache
 
 -- ---- moments
 
+-- one more placement of the run's one moment leaves all of that moment
 pub moments_push : (o : Option Moment) (history : List Placed) (p : Placed) → IfSome o (λ m. All (λ (p : Placed). p.at ≡ m) history) → IfSome o (λ m. p.at ≡ m)
     → IfSome o (λ m. All (λ (p : Placed). p.at ≡ m) (history ++ p ∷ []))
 moments_push None history p every one = tt
@@ -79,6 +80,7 @@ session_is who script every some = session_from 0 who script every some
 
 -- ---- syncs and replies
 
+-- a ticket is among the syncs' just if a sync of it waits
 pub has_tickets : (k : ℕ) (syncs : List Waiter) → has k (tickets syncs) ≡ list_any (syncs_it k) syncs
 has_tickets k [] = refl
 has_tickets k (s ∷ syncs) = ap (λ b. (s.ticket == k) || b) (has_tickets k syncs)

@@ -15,6 +15,7 @@ pub data At (xs : List (Option Reply)) (k : ℕ) : Type 0 where
   not_yet : slice_get xs k ≡ Some None → At xs k
   there : (reply : Reply) → slice_get xs k ≡ Some (Some reply) → At xs k
 
+-- what stands at a place of the replies: nothing, one to come, or one that is there
 pub at : (xs : List (Option Reply)) (k : ℕ) → At xs k
 at xs k = by (slice_get xs k) refl
   where
@@ -49,10 +50,12 @@ pub record AreTurned (a b : State) (old new : List (Option Reply)) : Type 0 wher
   pub rests : (k : ℕ) → is_waiting a k ≡ false → is_waiting b k ≡ false
   pub replied : (k : ℕ) (reply : Option Reply) → slice_get old k ≡ Some None → slice_get new k ≡ Some reply → is_waiting b k ≡ not (is_some reply)
 
+-- past the end of the replies there is none after a turn either
 pub still_past : (old new : List (Option Reply)) (k : ℕ) → length new ≡ length old → slice_get old k ≡ None → slice_get new k ≡ None
 still_past old new k count e = ⊎_elim (λ less. let x = at_some old k less in absurd (let h : Some x.0 ≡ None = sym x.1 ∙ e in cc)) (λ past. slice_get_past new k (omega (arith, count, past)))
     (Rattle.std.proofs.lemmas.Bool.cases_lt k (length old))
 
+-- over a turn the places without a reply are still those that wait
 pub waiting_turn : (a b : State) (old new : List (Option Reply)) → AreWaiting a old → AreTurned a b old new → AreWaiting b new
 waiting_turn a b old new were turned = record { none_yet = λ k e. yet k e (at old k); waits = λ k e. still k e (cases_Bool (is_waiting a k)) }
   where

@@ -47,6 +47,7 @@ passes_one p ps (c ∷ cs) other all e =
       | inr itself ↦ inr (grind (arith, nat_tests, itself))
     ]) (all cs parts.1)
 
+-- the test says yes only of a text that the pattern stands for
 pub stands : (ps text : List ℕ) → stands_for ps text ≡ true → StandsFor ps text
 stands [] text e = let none : length text ≡ 0 = grind (arith, nat_tests, e) in empty_is text none
 stands (p ∷ ps) text e = elim (cases_eq p 42) [
@@ -87,6 +88,7 @@ same_test false true x y = absurd (let e : false ≡ true = x.1 (y.0 refl) in cc
 pub pattern_is : (pattern name : List ℕ) → IsTrue (matches pattern name) ↔ Matches pattern name
 pattern_is pattern name = (stands (chars pattern) (chars name), stands_only (chars pattern) (chars name))
 
+-- a test that is right about a pattern and a name agrees with the computed one
 pub same_match : (b : Bool) (pattern name : List ℕ) → (IsTrue b ↔ Matches pattern name) → b ≡ matches pattern name
 same_match b pattern name h = same_test b (matches pattern name) h (pattern_is pattern name)
 
@@ -104,6 +106,7 @@ none_are : (patterns : List (List ℕ)) → length patterns ≡ 0 → patterns �
 none_are [] e = refl
 none_are (p ∷ ps) e = absurd (omega arith)
 
+-- the test computes for which texts a pattern stands
 pub computed : IsComputed
 computed None name size = (λ e. cc, absurd)
 computed (Some policy) name size = (chosen, only)
@@ -127,5 +130,6 @@ computed (Some policy) name size = (chosen, only)
           | inr some ↦ or_right (eqb (length policy.names) 0) (list_any (λ pattern. matches pattern name) policy.names) (any_only name policy.names some)
         ])
 
+-- the computed choice says whether a policy puts a file on the index partition
 pub same_choice : (b : Bool) (policy : Option Policy) (name : List ℕ) (size : ℕ) → b ≡ chooses_ip policy name size → IsTrue b ↔ ChoosesIp policy name size
 same_choice b policy name size is = subst (λ x. IsTrue x ↔ ChoosesIp policy name size) (sym is) (computed policy name size)

@@ -9,6 +9,7 @@ use Rattle.placement.specs.Walks.{IsFollowed, IsFound, IsWalk}
 use Rattle.placement.specs.declared.patterns.Walk.{Walk}
 use Rattle.placement.specs.declared.patterns.Walk.TheVariants.{Star, Whole, Stuck}
 
+-- a list of length 0 is the empty one
 pub empty_is : (xs : List ℕ) → length xs ≡ 0 → xs ≡ []
 empty_is [] e = refl
 empty_is (x ∷ xs) e = absurd (omega arith)
@@ -28,6 +29,7 @@ one_long (c ∷ []) e = (c, refl)
 one_long [] e = absurd (omega arith)
 one_long (c ∷ d ∷ run) e = absurd (omega arith)
 
+-- a character of a pattern that isn't `*` is passed by one character of the text
 pub passed : (p : ℕ) (ps text : List ℕ) → p ≢ 42 → StandsFor (p ∷ ps) text → IsPassed p ps text
 passed p ps text other h = elim h.first [
   | inl star ↦ absurd (other star)
@@ -37,6 +39,7 @@ passed p ps text other h = elim h.first [
   | inr (inr itself) ↦ record { c = p; behind = h.behind; whole = h.whole ∙ ap (λ run. run ++ h.behind) itself.2; passes = inr refl; rest = h.rest }
 ]
 
+-- a character that fits goes in front of a pattern and of its text
 pub passes_on : (p c : ℕ) (ps cs : List ℕ) → p ≢ 42 → (p ≡ 63) ⊎ (p ≡ c) → StandsFor ps cs → StandsFor (p ∷ ps) (c ∷ cs)
 passes_on p c ps cs other passes h = record { front = c ∷ []; behind = cs; whole = refl; first = run passes; rest = h }
   where
@@ -94,6 +97,7 @@ ends pattern none is = none (left is.front is.behind is.whole is.rest)
 pub begins : (pattern text : List ℕ) → IsFollowed pattern text pattern text
 begins pattern text = record { count = 0; at_is = refl; along = λ other h. h; back = λ h. h }
 
+-- where one character fits, the pattern is followed over it on both sides
 pub steps : (pattern text ps cs : List ℕ) (p c : ℕ) → p ≢ 42 → (p ≡ 63) ⊎ (p ≡ c) → IsFollowed pattern text (p ∷ ps) (c ∷ cs) → IsFollowed pattern text ps cs
 steps pattern text ps cs p c other passes h = record {
   count = h.count + 1;
@@ -115,6 +119,7 @@ too_short p ps other is = let one = passed p ps [] other is in let whole = one.w
 
 -- ---- what the walk along a pattern tells
 
+-- a pattern with a character left stands for no text that is used up
 pub short_text : (pattern text left at ps : List ℕ) (p : ℕ) → IsFollowed pattern text left at → left ≡ p ∷ ps → at ≡ [] → p ≢ 42 → StandsFor pattern text → ⊥
 short_text pattern text left at ps p h first none other =
     stuck pattern text left at h (λ is. too_short p ps other (subst (StandsFor (p ∷ ps)) none (subst (λ l. StandsFor l at) first is)))
@@ -122,22 +127,26 @@ short_text pattern text left at ps p h first none other =
 pub long_text : (pattern text left at cs : List ℕ) (c : ℕ) → IsFollowed pattern text left at → left ≡ [] → at ≡ c ∷ cs → StandsFor pattern text → ⊥
 long_text pattern text left at cs c h none first = stuck pattern text left at h (λ is. let ended : at ≡ [] = subst (λ l. StandsFor l at) none is in cc)
 
+-- a `?` or an equal character carries a pattern further along a text
 pub goes_on : (pattern text left at ps cs : List ℕ) (p c : ℕ) → IsFollowed pattern text left at → left ≡ p ∷ ps → at ≡ c ∷ cs → p ≢ 42 → ((p ≢ 63) × (p ≡ c)) ⊎ (p ≡ 63) → IsFollowed pattern text ps cs
 goes_on pattern text left at ps cs p c h first next other passes =
     steps pattern text ps cs p c other (elim passes [ inl itself ↦ inr itself.1 | inr one ↦ inl one ]) (subst (λ a. IsFollowed pattern text (p ∷ ps) a) next (subst (λ l. IsFollowed pattern text l at) first h))
 
 -- ---- what is found behind a `*`
 
+-- where a walk from some place isn't stuck, the text behind a `*` is found as it says
 pub found : (pattern text at : List ℕ) (walk : Walk) → (StandsFor (42 ∷ pattern) text ↔ StandsFor (42 ∷ pattern) at) → IsWalk pattern at walk → (walk ≡ Stuck → ⊥) → IsFound pattern text walk
 found pattern text at (Star left rest) same h other = let star = found_star pattern at (chars left.now) (chars rest.now) h in (λ is. star.0 (same.0 is), λ is. same.1 (star.1 is))
 found pattern text at Whole same h other = same.1 (star_takes pattern [] at h)
 found pattern text at Stuck same h other = absurd (other refl)
 
+-- where the rest doesn't stand from here, a `*` takes one more character
 pub goes_further : (pattern text at rest : List ℕ) (c : ℕ) → (StandsFor (42 ∷ pattern) text ↔ StandsFor (42 ∷ pattern) at) → (StandsFor pattern at → ⊥) → at ≡ c ∷ rest → (StandsFor (42 ∷ pattern) text ↔ StandsFor (42 ∷ pattern) rest)
 goes_further pattern text at rest c same none first =
     let next = moves pattern rest c (subst (λ t. StandsFor pattern t → ⊥) first none) in
     (λ is. next.0 (subst (StandsFor (42 ∷ pattern)) first (same.0 is)), λ is. same.1 (subst (StandsFor (42 ∷ pattern)) (sym first) (next.1 is)))
 
+-- where nothing is left for a `*` to take, the pattern doesn't stand for the text
 pub never_found : (pattern text at : List ℕ) → (StandsFor (42 ∷ pattern) text ↔ StandsFor (42 ∷ pattern) at) → (StandsFor pattern at → ⊥) → at ≡ [] → StandsFor (42 ∷ pattern) text → ⊥
 never_found pattern text at same none first is =
     ends pattern (subst (λ t. StandsFor pattern t → ⊥) first none) (subst (StandsFor (42 ∷ pattern)) first (same.0 is))

@@ -29,6 +29,7 @@ pub record Next (root : Node) (links : Links) (count : ℕ) (m : Nodes) : Type 0
   pub shown : (p : Path) → fin.get m p ≡ walk (child links) (Some root) p
   pub kept : IsKept m links count
 
+-- links that show a map and keep it do so under another name of the map
 pub now_kept : (root : Node) (links : Links) (count : ℕ) (m : Nodes) (s : Seen root links) → s.0 ≡ m → IsKept s.0 links count → Next root links count m
 now_kept root links count m s is kept = record {
   shown = λ p. ap (λ n. fin.get n p) (sym is) ∙ s.1 p;
@@ -39,9 +40,11 @@ now_kept root links count m s is kept = record {
 pub only : (root : Node) (links : Links) (count : ℕ) (m n : Nodes) → ((p : Path) → fin.get n p ≡ walk (child links) (Some root) p) → Next root links count m → n ≡ m
 only root links count m n shown next = fin.same_map path_total path_exact n m (λ p. shown p ∙ sym (next.shown p))
 
+-- a map that is shown by the same links as one that is kept is kept
 pub still_kept : (root : Node) (links : Links) (count : ℕ) (m n : Nodes) → ((p : Path) → fin.get n p ≡ walk (child links) (Some root) p) → Next root links count m → IsKept n links count
 still_kept root links count m n shown next = subst (λ n. IsKept n links count) (sym (only root links count m n shown next)) next.kept
 
+-- links that show the root alone are those of the empty tree
 pub the_root : (root : Node) (links : Links) (at : Moment) → root ≡ new_node kinds.Dir 1 at → ((u : ℕ) (n : List ℕ) → child links u n ≡ None) → Next root links 1 (empty_tree at).nodes
 the_root root links at is none = record {
   shown = by;
@@ -71,6 +74,7 @@ uid_kept a b e = ap uid_in e
     uid_in (Some v) = v.0
 
 module _ (root : Node) (links next : Links) (count : ℕ) (m : Nodes) (was : Next root links count m) where
+  -- links that lead everywhere to the same children show the same map
   pub unchanged : IsSame (child links) (child next) → Next root next count m
   unchanged same = record {
     shown = λ p. was.shown p ∙ sym (same_walks (child links) (child next) (Some root) p same);
@@ -149,14 +153,17 @@ module _ (root : Node) (links next : Links) (count : ℕ) (m : Nodes) (was : Nex
         ] refl
 
   module _ (path : Path) (uid : ℕ) (name : List ℕ) (place : IsPlace m path uid name) where
+    -- a node put in at a place that is free, and counted, is in the map
     pub insert_next : (node : Node) (copy : List ℕ) → copy ≡ name → IsPut (child links) (child next) uid copy (Some node) → CanStand m path node → Next root next (count + 1) (fin.insert m path node)
     insert_next node copy is put can = subst (λ p. CanStand m p node → Next root next (count + 1) (fin.insert m p node)) (sym place.split)
         (insert_there place.front name place.dir place.there node (subst (λ u. IsPut (child links) (child next) u name (Some node)) (sym place.uid_is) (subst (λ n. IsPut (child links) (child next) uid n (Some node)) is put))) can
 
+    -- a node that may leave, taken out and no more counted, is gone from the map
     pub remove_next : IsPut (child links) (child next) uid name None → CanLeave m path → Next root next (count - 1) (fin.remove m path)
     remove_next put can = subst (λ p. CanLeave m p → Next root next (count - 1) (fin.remove m p)) (sym place.split)
         (remove_there place.front name place.dir place.there (subst (λ u. IsPut (child links) (child next) u name None) (sym place.uid_is) put)) can
 
+    -- a change that leaves a node's uid, and whether it is a directory, changes it in the map
     pub change_next : (f : Node → Node) → ((n : Node) → mark_of (Some (f n)) ≡ mark_of (Some n)) → IsPut (child links) (child next) uid name (option_map f (child links uid name)) → Next root next count (changed_at f path m)
     change_next f keeps put = subst (λ p. Next root next count (changed_at f p m)) (sym place.split)
         (change_there place.front name place.dir place.there f keeps (subst (λ u. IsPut (child links) (child next) u name (option_map f (child links u name))) (sym place.uid_is) put))
@@ -199,6 +206,7 @@ module _ (root : Node) (links next : Links) (count : ℕ) (m : Nodes) (was : Nex
       value_of None some = cc
       value_of (Some n) some = (n, refl)
 
+  -- a node linked at another place is moved in the map, with all below it
   pub move_next : (from to : Path) (old uid : ℕ) (old_name name : List ℕ) → IsPlace m from old old_name → IsPlace m to uid name → IsMovedTo (child links) (child next) old old_name uid name → CanMove m from to → Next root next count (moved from to m)
   move_next from to old uid old_name name a b move can =
       subst (λ p. CanMove m p to → Next root next count (moved p to m)) (sym a.split) (
@@ -212,6 +220,7 @@ module _ (root : Node) (links : Links) (count : ℕ) (m : Nodes) (was : Next roo
   place_child path uid name place =
       ap (fin.get m) place.split ∙ child_shown (child links) root m was.shown place.front place.dir name place.there ∙ ap (λ u. child links u name) place.uid_is
 
+  -- where the links lead no further, the refusal is that of a missing path
   pub why_lost : (path : Path) (last : Node) (refusal : Refusal) → IsLast (child links) root path last → refusal ≡ missing_below last.kind → IsMissing m path refusal
   why_lost path last refusal is by =
       let there : fin.get m (take is.names path) ≡ Some last = was.shown (take is.names path) ∙ is.there in
@@ -222,13 +231,16 @@ module _ (root : Node) (links : Links) (count : ℕ) (m : Nodes) (was : Next roo
         reason = by ∙ front_decides m path is.names last is.shorter there (λ n from below. longer n (omega arith) (omega arith));
       }
 
+-- a path without names is the empty one
 pub no_names : (p : Path) → length p ≡ 0 → p ≡ []
 no_names [] e = refl
 no_names (x ∷ p) e = absurd (omega arith)
 
+-- a path with names is not the empty one
 pub some_names : (p : Path) → 0 < length p → p ≢ []
 some_names p lt e = absurd (omega (arith, ap length e))
 
+-- a path is at or below itself
 pub below_self : (p : Path) → is_at_or_below p p ≡ true
 below_self p = ap (is_at_or_below p) (sym (append-nil p)) ∙ below_join p []
 
@@ -240,6 +252,7 @@ one_there m p count counted some = by (fin.len m) refl
     by zero e = let wrong : true ≡ false = sym some ∙ ap (λ (m : Nodes). is_some (fin.get m p)) (fin.empty_of_len m e) ∙ ap is_some (fin.get-empty path_cmp p) in cc
     by (suc n) e = omega (arith, counted)
 
+-- a directory that is there is not missing
 pub no_dir_missing : (m : Nodes) (path : Path) → (uid : ℕ) × (mark_at m (parent_of path) ≡ Some (uid, true)) → path ≢ [] → (path ≢ [] → fin.get m (parent_of path) ≡ None) → ⊥
 no_dir_missing m path up named missing = unlike (mark_at m (parent_of path)) (up.0, true) (ap mark_of (missing named)) up.1
 
@@ -247,6 +260,7 @@ no_dir_missing m path up named missing = unlike (mark_at m (parent_of path)) (up
 pub lines_are : (root : Node) (links : Links) (count : ℕ) (m : Nodes) → Next root links count m → (dir : Path) (node : Node) → fin.get m dir ≡ Some node → IsStrictlySortedBy name_cmp (map (λ (e : Entry). e.name) (lines_of links node.uid)) → lines_of links node.uid ≡ entries_in m dir
 lines_are root links count m was dir node is ascend = listed_same _ m dir ascend (λ name. child_shown (child links) root m was.shown dir node name is)
 
+-- what a success equals, it equals under another name of it
 pub if_ok_same : {A E : Type 0} {x y : A} (r : Result A E) → x ≡ y → IfOk r (λ v. v ≡ x) → IfOk r (λ v. v ≡ y)
 if_ok_same (Ok v) is e = e ∙ is
 if_ok_same (Err v) is e = e
@@ -256,5 +270,6 @@ pub seen_by : {A E : Type 0} (r : Result A E) (root : Node) (links : Links) (cou
 seen_by (Ok x) root links count a b ok err = (a, ok.shown)
 seen_by (Err x) root links count a b ok err = (b, err.shown)
 
+-- the root under another name is the same root
 pub same_root : (root new : Node) (links : Links) (count : ℕ) (m : Nodes) → Next root links count m → new ≡ root → Next new links count m
 same_root root new links count m was is = subst (λ r. Next r links count m) (sym is) was

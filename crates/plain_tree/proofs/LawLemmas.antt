@@ -35,6 +35,7 @@ module _ (P : Tree → Type 0) (keeps : (t : Tree) (call : Call) (at : Moment) �
       by fates.Done None is called = rw (is, called) h
       by fates.Done (Some call) is called = rw (is, called) (keeps t call p.at h)
 
+  -- what each call keeps, a whole history keeps
   pub history_keeps : (calls : Calls) (history : List Placed) (t : Tree) → P t → P (replay calls t history)
   history_keeps calls [] t h = h
   history_keeps calls (p ∷ history) t h = history_keeps calls history (after_placement calls t p) (placed_keeps calls t p h)
@@ -56,6 +57,7 @@ value_not_refused t (Rename from to) refusal e = cc
 value_not_refused t (Remove path) refusal e = cc
 value_not_refused t Sync refusal e = cc
 
+-- a call that is refused leaves the tree as it was
 pub refused_keeps : (t : Tree) (call : Call) (at : Moment) (refusal : Refusal) → answer t call ≡ answers.Refused refusal → after t call at ≡ t
 refused_keeps t call at refusal e =
     elim (refusal_of t call) as (λ r. answer_unless r (value_of t call) ≡ answers.Refused refusal → after_unless r (after_done t call at) t ≡ t) [
@@ -184,6 +186,7 @@ later_next t call at s =
       | Some refusal ↦ λ _. later_same t
     ] refl
 
+-- a node keeps its attributes, and a new one has none
 pub attributes_stay : (t : Tree) (call : Call) (at : Moment) → IsValid t → (path : Path) (node : Node) → fin.get (after t call at).nodes path ≡ Some node
     → StandsWith t node.uid node.keys ⊎ ((t.highest < node.uid) × (node.keys ≡ fin.empty))
 attributes_stay t call at s path node is = ⊎_elim
@@ -208,6 +211,7 @@ highest_done t Sync at = omega arith
 highest_next : (t : Tree) (call : Call) (at : Moment) → t.highest ≤ (after t call at).highest
 highest_next t call at = elim (refusal_of t call) as (λ r. t.highest ≤ (after_unless r (after_done t call at) t).highest) [ None ↦ highest_done t call at | Some refusal ↦ omega arith ]
 
+-- the highest uid never falls
 pub highest_rises : (calls : Calls) (history : List Placed) (t : Tree) → t.highest ≤ (replay calls t history).highest
 highest_rises calls history t =
     history_keeps (λ next. t.highest ≤ next.highest) (λ next call at h. omega (arith, h, highest_next next call at)) calls history t (omega arith)
@@ -217,6 +221,7 @@ record KeepsUnused (h uid : ℕ) (t : Tree) : Type 0 where
   given : uid ≤ t.highest
   unused : IsUnused t uid
 
+-- a uid that was given and is no more used stays unused
 pub unused_stays : (calls : Calls) (history : List Placed) (t : Tree) (uid : ℕ) → IsValid t → uid ≤ t.highest → IsUnused t uid → IsUnused (replay calls t history) uid
 unused_stays calls history t uid s given unused =
     (history_keeps (KeepsUnused 0 uid)

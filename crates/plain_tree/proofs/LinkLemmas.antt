@@ -14,6 +14,7 @@ use Rattle.plain_tree.specs.declared.calls.Entry.{Entry}
 use Rattle.plain_tree.specs.Links.{Child, Names, name_cmp, under, child, walk, lines, line_of, IsPut, IsPutIn, IsMovedTo}
 use Rattle.plain_tree.specs.Paths.{Path}
 
+-- names of which none is before the other are the same
 pub name_exact : fin.IsAntisymmetric name_cmp
 name_exact = fin.slice_cmp-IsAntisymmetric fin.nat_cmp-IsAntisymmetric
 
@@ -25,12 +26,15 @@ other_name name n apart =
       | Greater ↦ λ _. refl
     ] refl
 
+-- an entry that is put into a directory's names stands there, and the others as they did
 pub put_in : (names new : Names) (name : List ℕ) (o : Option Node) → Updates name_cmp names new name o → IsPutIn names new name o
 put_in names new name o by = record { here = by.1; others = λ n apart. by.2 n (other_name name n apart) }
 
+-- an entry that is replaced by a changed one is changed in its directory
 pub changed_in : (f : Node → Node) (names new : Names) (name : List ℕ) (node w : Node) → Some node ≡ get name_cmp names name → w ≡ f node → Updates name_cmp names new name (Some w) → IsPutIn names new name (option_map f (get name_cmp names name))
 changed_in f names new name node w was is by = record { here = by.1 ∙ ap (λ x. Some x) is ∙ ap (option_map f) was; others = λ n apart. by.2 n (other_name name n apart) }
 
+-- an entry that is replaced by itself changes nothing
 pub same_in : (names new : Names) (name : List ℕ) (node w : Node) → Some node ≡ get name_cmp names name → w ≡ node → Updates name_cmp names new name (Some w) → (n : List ℕ) → get name_cmp new n ≡ get name_cmp names n
 same_in names new name node w was is by n =
     elim (name_cmp name n) as (λ r. name_cmp name n ≡ r → get name_cmp new n ≡ get name_cmp names n) [
@@ -64,9 +68,11 @@ module _ (dirs next : BTreeMap ℕ Names) (uid : ℕ) (new : Names) (name : List
     ] refl;
   }
 
+  -- a change of the names of a directory is a change of the links
   pub put_through : (names : Names) → Some names ≡ get nat_cmp dirs uid → IsPutIn names new name o → IsPut (child (record { dirs = dirs })) (child (record { dirs = next })) uid name o
   put_through names was inner = put_at inner.here (λ n apart. inner.others n apart ∙ ap (λ d. under d n) was)
 
+  -- the first name of a directory is a change of the links
   pub put_first : (empty : Names) → None ≡ get nat_cmp dirs uid → IsEmpty empty → IsPutIn empty new name o → IsPut (child (record { dirs = dirs })) (child (record { dirs = next })) uid name o
   put_first empty was nothing inner = put_at inner.here (λ n apart. inner.others n apart ∙ in_empty n ∙ ap (λ d. under d n) was)
     where
@@ -78,11 +84,13 @@ pub walk_none : (child : Child) (path : Path) → walk child None path ≡ None
 walk_none child [] = refl
 walk_none child (x ∷ path) = refl
 
+-- a walk along two paths is a walk along the first, and then along the second
 pub walk_append : (child : Child) (at : Option Node) (p q : Path) → walk child at (p ++ q) ≡ walk child (walk child at p) q
 walk_append child at [] q = refl
 walk_append child None (x ∷ p) q = sym (walk_none child q)
 walk_append child (Some node) (x ∷ p) q = walk_append child (child node.uid x) p q
 
+-- one name more of a path leads to that child
 pub walk_more : (child : Child) (at : Option Node) (path : Path) (k : ℕ) (name : List ℕ) (node : Node) → k < length path → name ≡ get_or path k name → walk child at (take k path) ≡ Some node → walk child at (take (k + 1) path) ≡ child node.uid name
 walk_more child at path k name node lt is there = ap (walk child at) (take_more path k name lt ∙ ap (λ x. take k path ++ x ∷ []) (sym is)) ∙ walk_append child at (take k path) (name ∷ []) ∙ ap (λ o. walk child o (name ∷ [])) there
 
@@ -108,10 +116,12 @@ some_ascend o names is sorted = subst (λ o. IsStrictlySortedBy name_cmp (map (�
     keys_shown [] = refl
     keys_shown (e ∷ es) = ap (λ l. e.0 ∷ l) (keys_shown es)
 
+-- where a directory has no names its lines are in order, for there are none
 pub none_ascend : (o : Option Names) → None ≡ o → IsStrictlySortedBy name_cmp (map (λ (e : Entry). e.name) (lines o))
 unfolding IsStrictlySortedBy
 none_ascend o is = subst (λ o. IsStrictlySortedBy name_cmp (map (λ (e : Entry). e.name) (lines o))) is tt
 
+-- a fact that holds in any case holds after a failure too
 pub on_any_err : {T E A : Type 0} (r : Result T E) → A → OnErr r A
 on_any_err (Ok x) a = tt
 on_any_err (Err x) a = a

@@ -21,9 +21,11 @@ use Rattle.plain_tree.proofs.ListingLemmas.{child_name, line_says, cmp_children,
 abbrev pub pair : Entry → List ℕ × Sort
 pair e = (e.name, e.sort)
 
+-- the names and sorts of entries
 abbrev pub pairs : List Entry → List (List ℕ × Sort)
 pairs es = map pair es
 
+-- the sort of the node, where one is there
 abbrev pub sort_at : Option Node → Option Sort
 sort_at o = option_map (λ (n : Node). sort_of n.kind) o
 

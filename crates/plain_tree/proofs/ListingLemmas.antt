@@ -180,6 +180,7 @@ sorted_entries m = is_true (fin.is_sorted path_cmp (fin.entries m)) (fin.entries
     is_true true h = refl
     is_true false h = absurd h
 
+-- the entries of a directory are just the nodes that stand directly in it
 pub exact : (m : Nodes) (dir : Path) → IsExactListing m dir (entries_in m dir)
 exact m dir = record {
   complete = λ name node found. complete_in (fin.entries m) dir name node (sym (fin.get-entries m (dir ++ name ∷ [])) ∙ found);
@@ -187,6 +188,7 @@ exact m dir = record {
   ascends = names_ascend (fin.entries m) dir (sorted_entries m);
 }
 
+-- what a listing answers is just what stands directly in the directory
 pub listing_exact : (t : Tree) (dir : Path) (entries : List Entry) → answer t (Listing dir) ≡ answers.Names entries → IsExactListing t.nodes dir entries
 listing_exact t dir entries e =
     elim (no_dir t.nodes dir) as (λ (r : Option Refusal). answer_unless r (answers.Names (entries_in t.nodes dir)) ≡ answers.Names entries → IsExactListing t.nodes dir entries) [

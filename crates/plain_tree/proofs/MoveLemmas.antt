@@ -21,12 +21,15 @@ use Rattle.plain_tree.proofs.NodeLemmas.{path_total, path_exact}
 pub same_is : (x y : Path) → same_path x y ≡ true → x ≡ y
 same_is x y e = path_exact x y (tied _ e)
 
+-- a path is the same as itself
 pub same_self : (x : Path) → same_path x x ≡ true
 same_self x = ap is_eq (tied_itself path_total x)
 
+-- paths that are equal pass the test of being the same
 pub is_same : (x y : Path) → x ≡ y → same_path x y ≡ true
 is_same x y e = subst (λ z. same_path x z ≡ true) e (same_self x)
 
+-- the test of being at or below a path says whether that path is its front
 pub below_Decides : (d q : Path) → Decides (is_at_or_below d q) (d ≡ take (length d) q)
 below_Decides d q = slice_eq-Decides (λ x y. slice_eq-Decides unsigned_Decides x y _ refl) d (take (length d) q) _ refl
 
@@ -34,21 +37,27 @@ below_Decides d q = slice_eq-Decides (λ x y. slice_eq-Decides unsigned_Decides 
 pub below_split : (d q : Path) → is_at_or_below d q ≡ true → q ≡ d ++ drop (length d) q
 below_split d q e = sym (take-append-drop (length d) q) ∙ ap (λ p. p ++ drop (length d) q) (sym ((below_Decides d q).0 e))
 
+-- a path with more names behind it is at or below it
 pub below_join : (d x : Path) → is_at_or_below d (d ++ x) ≡ true
 below_join d x = (below_Decides d (d ++ x)).1 (sym (take_at d x (length d) refl))
 
+-- a path at or below the one that moves goes along with it
 pub moved_below : (from to k : Path) → is_at_or_below from k ≡ true → moved_path from to k ≡ to ++ drop (length from) k
 moved_below from to k e = ap (λ b. cond b (to ++ drop (length from) k) k) e
 
+-- a path that is not at or below the one that moves stays
 pub moved_other : (from to k : Path) → is_at_or_below from k ≡ false → moved_path from to k ≡ k
 moved_other from to k e = ap (λ b. cond b (to ++ drop (length from) k) k) e
 
+-- removing one path leaves what stands at another
 pub other_removed : (m : Nodes) (p q : Path) → same_path q p ≡ false → fin.get (fin.remove m p) q ≡ fin.get m q
 other_removed m p q other = fin.get-remove path_total m p q ∙ ap (λ b. cond b None (fin.get m q)) other
 
+-- putting something in at one path leaves what stands at another
 pub other_inserted : (m : Nodes) (p q : Path) (node : Node) → same_path q p ≡ false → fin.get (fin.insert m p node) q ≡ fin.get m q
 other_inserted m p q node other = fin.get-insert path_total m p node q ∙ ap (λ b. cond b (Some node) (fin.get m q)) other
 
+-- what was put in at a path stands there
 pub here_inserted : (m : Nodes) (p q : Path) (node : Node) → same_path q p ≡ true → fin.get (fin.insert m p node) q ≡ Some node
 here_inserted m p q node same = fin.get-insert path_total m p node q ∙ ap (λ b. cond b (Some node) (fin.get m q)) same
 
@@ -56,6 +65,7 @@ here_inserted m p q node same = fin.get-insert path_total m p node q ∙ ap (λ 
 keys_there : (m : Nodes) (x : Path) → list_any (same_path x) (fin.keys m) ≡ is_some (fin.get m x)
 keys_there m x = sym (fin.contains_key-keys m x)
 
+-- a path below all paths of the entries is none of them
 pub none_above : {X : Type 0} (es : List (Path × X)) (x : Path) → fin.Entries.below_all path_cmp x es ≡ true → list_any (same_path x) (map (λ e. e.0) es) ≡ false
 none_above [] x e = refl
 none_above (y ∷ es) x e =
@@ -67,6 +77,7 @@ none_above (y ∷ es) x e =
     less_apart Equal e = cc
     less_apart Greater e = cc
 
+-- paths that are not the same fail the test of being the same
 pub not_same : (x y : Path) → (same_path x y ≡ true → ⊥) → same_path x y ≡ false
 not_same x y h = not_true (same_path x y) h
 
@@ -88,6 +99,7 @@ module _ (from to : Path) where
       below_split to q at ∙ ap (λ r. to ++ r) (sym (drop_at from (drop (length to) q) (length from) refl) ∙ ap (drop (length from)) (same_is (back q) k same))
       ∙ sym (moved_below from to k below)))
 
+  -- a path that is traced back is at or below the place that moves
   pub back_below : (q : Path) → is_at_or_below from (back q) ≡ true
   back_below q = below_join from (drop (length to) q)
 
@@ -134,6 +146,7 @@ module _ (from to : Path) where
             | false ↦ λ other. ap (same_path q) (moved_other from to k other) ∙ outside k q away other a b ta fb
           ] refl
 
+  -- what stands at each path after a move: what came there, nothing where it left, or what was there
   pub get_moved : (m : Nodes) (q : Path) → ((x : Path) → is_at_or_below to x ≡ true → fin.get m x ≡ None)
       → fin.get (moved from to m) q ≡ cond (is_at_or_below to q) (fin.get m (back q)) (cond (is_at_or_below from q) None (fin.get m q))
   get_moved m q free =

@@ -59,9 +59,11 @@ module _ {B : Type 0} (bytes : B → List ℕ) (es fs : List (ℕ × B)) (k : �
       (λ other. byte_elsewhere i other)
       (same_or_not k (i / 4096))
 
+-- each of so many zeros is zero
 pub zeros : (n j : ℕ) → get_or {A = ℕ} (replicate n 0) j 0 ≡ 0
 zeros n j = ⊎_elim (λ lt. get_or-replicate n j 0 0 lt) (λ ge. get_or_past (replicate n 0) j 0 (omega (arith, length-replicate {A = ℕ} n 0))) (cases_lt j n)
 
+-- where there is not something, there is nothing
 pub none_of : {B : Type 0} (o : Option B) → is_some o ≡ false → None ≡ o
 none_of None h = refl
 none_of (Some x) h = cc

@@ -14,6 +14,7 @@ use Rattle.plain_tree.proofs.MoveLemmas.{same_is, is_same, below_split, below_jo
 use Rattle.plain_tree.proofs.Validity.{below_length, free_below, fewer_moved}
 use Rattle.plain_tree.proofs.LinkLemmas.{walk_none, walk_append}
 
+-- a node's uid is given at one path alone
 pub one_path : (m : Nodes) → AreValid m → (p q : Path) (n k : Node) → fin.get m p ≡ Some n → fin.get m q ≡ Some k → n.uid ≡ k.uid → p ≡ q
 one_path m valid p q n k at to same =
     valid.1.distinct p q n.uid (is_dir n.kind) (is_dir k.kind) (ap mark_of at) (ap mark_of to ∙ ap (λ u. Some (u, is_dir k.kind)) (sym same))
@@ -25,6 +26,7 @@ walk_same c d None (x ∷ r) h = refl
 walk_same c d (Some n) (x ∷ r) h =
     ap (λ o. walk d o r) (h [] r x n refl refl) ∙ walk_same c d (c n.uid x) r (λ s t y k e w. h (x ∷ s) t y k (ap (λ l. x ∷ l) e) w)
 
+-- links with the same children lead every path to the same node
 pub same_walks : (c d : Child) (at : Option Node) (r : Path) → IsSame c d → walk d at r ≡ walk c at r
 same_walks c d at r same = walk_same c d at r (λ s t x n e w. same n.uid x)
 
@@ -32,6 +34,7 @@ same_walks c d at r same = walk_same c d at r (λ s t x n e w. same n.uid x)
 walk_uid : (c : Child) (a b : Node) → a.uid ≡ b.uid → (y : List ℕ) (r : Path) → walk c (Some a) (y ∷ r) ≡ walk c (Some b) (y ∷ r)
 walk_uid c a b same y r = ap (λ u. walk c (c u y) r) same
 
+-- a name behind a path joins on to what follows it
 pub snoc : (a t : Path) (x : List ℕ) → (a ++ x ∷ []) ++ t ≡ a ++ x ∷ t
 snoc [] t x = refl
 snoc (y ∷ a) t x = ap (λ l. y ∷ l) (snoc a t x)
@@ -40,6 +43,7 @@ append_append : (a b c : Path) → (a ++ b) ++ c ≡ a ++ (b ++ c)
 append_append [] b c = refl
 append_append (y ∷ a) b c = ap (λ l. y ∷ l) (append_append a b c)
 
+-- nothing is not something
 pub unlike : {X : Type 0} (o : Option X) (x : X) → o ≡ None → o ≡ Some x → ⊥
 unlike o x none some = let wrong : None ≡ Some x = sym none ∙ some in cc
 
@@ -57,6 +61,7 @@ module _ (c : Child) (root : Node) (m : Nodes) (shown : (p : Path) → fin.get m
   from_node : (p r : Path) (n : Node) → fin.get m p ≡ Some n → fin.get m (p ++ r) ≡ walk c (Some n) r
   from_node p r n is = shown (p ++ r) ∙ walk_append c (Some root) p r ∙ ap (λ o. walk c o r) (sym (shown p) ∙ is)
 
+  -- what stands at a path with one name more is what the links have under that name
   pub child_shown : (p : Path) (n : Node) (x : List ℕ) → fin.get m p ≡ Some n → fin.get m (p ++ x ∷ []) ≡ c n.uid x
   child_shown p n x is = from_node p (x ∷ []) n is
 
@@ -102,6 +107,7 @@ module _ (c d : Child) (root : Node) (m : Nodes) (shown : (p : Path) → fin.get
   here_now : walk d (Some root) spot ≡ o
   here_now = ap (walk d (Some root)) (sym (append-nil spot)) ∙ at_spot []
 
+  -- a new node under a free name is in the map that the links show
   pub inserted : (node : Node) → o ≡ Some node → fin.get m spot ≡ None → ((n : List ℕ) → c node.uid n ≡ None) → (node.uid ≡ dir.uid → ⊥) → (q : Path) → fin.get (fin.insert m spot node) q ≡ walk d (Some root) q
   inserted node is free childless fresh = everywhere (λ q. fin.get (fin.insert m spot node) q ≡ walk d (Some root) q)
       (λ q other. other_inserted m spot q node (apart_from q other) ∙ shown q ∙ sym (away q other))
@@ -111,6 +117,7 @@ module _ (c d : Child) (root : Node) (m : Nodes) (shown : (p : Path) → fin.get
       ∙ free_below m (fin.len m) valid.0 valid.1 spot free (suc (length r)) (spot ++ y ∷ r) (length-append spot (y ∷ r)) (below_join spot (y ∷ r))
       ∙ sym (at_spot (y ∷ r) ∙ ap (λ w. walk d w (y ∷ r)) is ∙ ap (λ w. walk d w r) (put.others node.uid y (λ e _. fresh e) ∙ childless y) ∙ walk_none d r))
 
+  -- a node without others below it is no more in the map when its link is gone
   pub removed : o ≡ None → ((y : List ℕ) → fin.get m (spot ++ y ∷ []) ≡ None) → (q : Path) → fin.get (fin.remove m spot) q ≡ walk d (Some root) q
   removed is bare = everywhere (λ q. fin.get (fin.remove m spot) q ≡ walk d (Some root) q)
       (λ q other. other_removed m spot q (apart_from q other) ∙ shown q ∙ sym (away q other))
@@ -121,6 +128,7 @@ module _ (c d : Child) (root : Node) (m : Nodes) (shown : (p : Path) → fin.get
       ∙ free_below m (fin.len m) valid.0 valid.1 (spot ++ y ∷ []) (bare y) (length r) ((spot ++ y ∷ []) ++ r) (length-append (spot ++ y ∷ []) r) (below_join (spot ++ y ∷ []) r)
       ∙ sym (at_spot (y ∷ r) ∙ ap (λ w. walk d w (y ∷ r)) is))
 
+  -- a node that is replaced by one of the same uid is replaced in the map
   pub changed : (node new : Node) → o ≡ Some new → fin.get m spot ≡ Some node → new.uid ≡ node.uid → (q : Path) → fin.get (fin.insert m spot new) q ≡ walk d (Some root) q
   changed node new is was same = everywhere (λ q. fin.get (fin.insert m spot new) q ≡ walk d (Some root) q)
       (λ q other. other_inserted m spot q new (apart_from q other) ∙ shown q ∙ sym (away q other))
@@ -133,6 +141,7 @@ module _ (c d : Child) (root : Node) (m : Nodes) (shown : (p : Path) → fin.get
       let p : spot ++ s ≡ front = one_path m valid (spot ++ s) front n dir (from_node c root m shown spot s node was ∙ w) there uid in
       absurd (omega (arith, ap length p, length-append spot s, long))))))
 
+  -- taking out a name where nothing stands leaves the map
   pub missing : o ≡ None → fin.get m spot ≡ None → (q : Path) → fin.get m q ≡ walk d (Some root) q
   missing is none = everywhere (λ q. fin.get m q ≡ walk d (Some root) q)
       (λ q other. shown q ∙ sym (away q other))
@@ -143,11 +152,13 @@ module _ (c d : Child) (root : Node) (m : Nodes) (shown : (p : Path) → fin.get
 
   -- who has children
   module _ (owned : (uid : ℕ) (name : List ℕ) → HasNoUid m uid → c uid name ≡ None) where
+    -- nothing stands below uids that no node has, after a node is put in
     pub inserted_owned : (node : Node) → fin.get m spot ≡ None → (uid : ℕ) (name : List ℕ) → HasNoUid (fin.insert m spot node) uid → d uid name ≡ None
     inserted_owned node free uid name unused =
         put.others uid name (λ e _. unused front dir (other_inserted m spot front node front_apart ∙ there) (sym e))
         ∙ owned uid name (λ p n is. unused p n (other_inserted m spot p node (differ p spot (λ e. unlike (fin.get m spot) n free (ap (fin.get m) (sym e) ∙ is))) ∙ is))
 
+    -- nothing stands below uids that no node has, after a node is changed
     pub changed_owned : (node new : Node) → fin.get m spot ≡ Some node → new.uid ≡ node.uid → (uid : ℕ) (name : List ℕ) → HasNoUid (fin.insert m spot new) uid → d uid name ≡ None
     changed_owned node new was same uid name unused =
         put.others uid name (λ e _. unused front dir (other_inserted m spot front new front_apart ∙ there) (sym e))
@@ -161,9 +172,11 @@ module _ (c d : Child) (root : Node) (m : Nodes) (shown : (p : Path) → fin.get
         cc_some : (a b : Node) → ◌≡◌ {A = Option Node} (Some a) (Some b) → a ≡ b
         cc_some a b e = cc
 
+    -- nothing stands below uids that no node has, after a free name is taken out
     pub missing_owned : (uid : ℕ) (name : List ℕ) → HasNoUid m uid → d uid name ≡ None
     missing_owned uid name unused = put.others uid name (λ e _. unused front dir there (sym e)) ∙ owned uid name unused
 
+    -- nothing stands below uids that no node has, after a node is removed
     pub removed_owned : (node : Node) → fin.get m spot ≡ Some node → ((y : List ℕ) → fin.get m (spot ++ y ∷ []) ≡ None) → (uid : ℕ) (name : List ℕ) → HasNoUid (fin.remove m spot) uid → d uid name ≡ None
     removed_owned node was bare uid name unused =
         put.others uid name (λ e _. unused front dir (other_removed m spot front front_apart ∙ there) (sym e))
@@ -178,10 +191,12 @@ module _ (c d : Child) (root : Node) (m : Nodes) (shown : (p : Path) → fin.get
 
 -- a change of the root that keeps its uid
 module _ (c : Child) (root new : Node) (m : Nodes) (shown : (p : Path) → fin.get m p ≡ walk c (Some root) p) (same : new.uid ≡ root.uid) where
+  -- a root that is replaced by one of the same uid is replaced in the map
   pub root_changed : (q : Path) → fin.get (fin.insert m [] new) q ≡ walk c (Some new) q
   root_changed [] = here_inserted m [] [] new refl
   root_changed (y ∷ r) = other_inserted m [] (y ∷ r) new refl ∙ shown (y ∷ r) ∙ sym (walk_uid c new root same y r)
 
+  -- nothing stands below uids that no node has, after the root is changed
   pub root_owned : ((uid : ℕ) (name : List ℕ) → HasNoUid m uid → c uid name ≡ None) → (uid : ℕ) (name : List ℕ) → HasNoUid (fin.insert m [] new) uid → c uid name ≡ None
   root_owned owned uid name unused = owned uid name by
     where
@@ -238,6 +253,7 @@ module _ (m : Nodes) (from to : Path) (can : CanMove m from to) where
         ] refl
       ] refl)
 
+  -- a move leaves as many nodes as there were
   pub moved_len : fin.len (moved from to m) ≡ fin.len m
   moved_len = omega (arith, fewer_moved from to m, fewer_moved to from (moved from to m), ap fin.len returned)
 
@@ -291,6 +307,7 @@ module _ (c d : Child) (root : Node) (m : Nodes) (shown : (p : Path) → fin.get
       (λ same _. absurd (omega (arith, ap length (one_path m valid (from ++ s) front k old at old_there same), length-append from s, length-append front (x ∷ []))))
       (λ same _. let wrong : true ≡ false = sym (below_join from s) ∙ ap (is_at_or_below from) (one_path m valid (from ++ s) up k dir at dir_there same) ∙ up_apart in cc))
 
+  -- a move of a link moves the node in the map, with all below it
   pub moved_seen : (q : Path) → fin.get (moved from to m) q ≡ walk d (Some root) q
   moved_seen q =
       get_moved from to m q can.free
@@ -304,6 +321,7 @@ module _ (c d : Child) (root : Node) (m : Nodes) (shown : (p : Path) → fin.get
         ] refl
       ] refl
 
+  -- nothing stands below uids that no node has, after a move
   pub moved_owned : ((uid : ℕ) (name : List ℕ) → HasNoUid m uid → c uid name ≡ None) → (uid : ℕ) (name : List ℕ) → HasNoUid (moved from to m) uid → d uid name ≡ None
   moved_owned owned uid name unused =
       move.others uid name

@@ -54,6 +54,7 @@ remark m p q node new Greater is found same = refl
 remarks : (m : Nodes) (p : Path) (node new : Node) → fin.get m p ≡ Some node → mark_of (Some new) ≡ mark_of (Some node) → (q : Path) → mark_at (fin.insert m p new) q ≡ mark_at m q
 remarks m p node new found same q = ap mark_of (fin.get-insert path_total m p new q) ∙ remark m p q node new (path_cmp q p) refl found same
 
+-- replacing what stands at a path leaves the count of nodes
 pub recount : (m : Nodes) (p : Path) (node new : Node) → fin.get m p ≡ Some node → fin.len (fin.insert m p new) ≡ fin.len m
 recount m p node new found = fin.len-insert path_total m p new ∙ ap (λ o. cond (is_some o) (fin.len m) (fin.len m + 1)) found
 
@@ -69,6 +70,7 @@ changed_keeps change keeps p m h s =
 touch_keeps : (at : Moment) (p : Path) (m : Nodes) (h : ℕ) → IsShape (mark_at m) (fin.len m) h → IsShape (mark_at (touch at p m)) (fin.len (touch at p m)) h
 touch_keeps at p m h s = changed_keeps (touched at) (λ n. refl) p m h s
 
+-- a change of a file's bytes leaves the uid, and whether it is a directory
 pub file_mark : (change : List Cell → List Cell) (at : Moment) (node : Node) → mark_of (Some (file_changed change at node)) ≡ mark_of (Some node)
 file_mark change at node = by node.kind refl
   where
@@ -77,11 +79,13 @@ file_mark change at node = by node.kind refl
     by (kinds.File cells) is = rw is refl
     by (kinds.Link text) is = rw is refl
 
+-- a change of a node leaves its uid, and whether it is a directory
 pub change_mark : (change : NodeChange) (at : Moment) (node : Node) → mark_of (Some (changed_by change at node)) ≡ mark_of (Some node)
 change_mark changes.Touch at node = refl
 change_mark changes.Note at node = refl
 change_mark (changes.Resize size) at node = file_mark (λ cells. resized cells size) at node
 
+-- a change of a file's bytes keeps the shape of the tree
 pub file_keeps : (change : List Cell → List Cell) (at : Moment) (p : Path) (m : Nodes) (h : ℕ) → IsShape (mark_at m) (fin.len m) h → IsShape (mark_at (changed_at (file_changed change at) p m)) (fin.len (changed_at (file_changed change at) p m)) h
 file_keeps change at p m h s = changed_keeps (file_changed change at) (file_mark change at) p m h s
 
@@ -135,6 +139,7 @@ pub first_none : (o : Option Refusal) (rest : List (Option Refusal)) → first_o
 first_none None rest e = (refl, e)
 first_none (Some r) rest e = cc
 
+-- a cause for a refusal that there is none of is not there
 pub not_refused : (b : Bool) (r : Refusal) → refuse_if b r ≡ None → b ≡ false
 not_refused true r e = cc
 not_refused false r e = refl
@@ -143,12 +148,14 @@ not_some : {A : Type 0} (o : Option A) → is_some o ≡ false → o ≡ None
 not_some None e = refl
 not_some (Some x) e = cc
 
+-- a path that is not refused as the root is not the root
 pub not_root : (p : Path) → at_root p ≡ None → p ≢ []
 not_root p e is = let wrong : true ≡ false = sym (ap (λ q. eqb (length q) 0) is) ∙ not_refused (eqb (length p) 0) Root e in cc
 
 pub room_of : (t : Tree) → too_many t ≡ None → (fin.len t.nodes < most_nodes) × (t.highest < 2 ^ 62)
 room_of t e = grind (arith, nat_tests)
 
+-- where a directory is not refused as missing, one stands
 pub dir_there : (nodes : Nodes) (path : Path) → no_dir nodes path ≡ None → (up : ℕ) × (mark_at nodes path ≡ Some (up, true))
 dir_there nodes path none = by (fin.get nodes path) refl
   where
@@ -161,6 +168,7 @@ dir_there nodes path none = by (fin.get nodes path) refl
     by None is = let wrong = rw is at none in cc
     by (Some node) is = (node.uid, ap mark_of is ∙ ap (λ b. Some (node.uid, b)) (kind_is node node.kind is refl))
 
+-- where a node is not refused as missing, one stands
 pub node_there : (nodes : Nodes) (path : Path) → no_node nodes path ≡ None → IsSome (fin.get nodes path)
 node_there nodes path none = by (fin.get nodes path) refl
   where
@@ -181,6 +189,7 @@ inserted_shape m path new can =
     (ap mark_of can.free) can.named can.up.1 can.room can.space
     (fin.len-insert path_total m path new ∙ ap (λ o. cond (is_some o) (fin.len m) (fin.len m + 1)) can.free) can.shape
 
+-- a new node may stand where its making is not refused
 pub can_stand : (kind : Kind) (t : Tree) (path : Path) (at : Moment) → new_refusal t path ≡ None → IsValid t → CanStand t.nodes path (new_node kind (t.highest + 1) at)
 can_stand kind t path at free s =
     let a = first_none (bad_name path) _ free in
@@ -206,6 +215,7 @@ create_keeps kind t path at free s =
     touch_keeps at (parent_of path) (fin.insert t.nodes path (new_node kind (t.highest + 1) at)) (t.highest + 1)
     (inserted_shape t.nodes path (new_node kind (t.highest + 1) at) (can_stand kind t path at free s))
 
+-- a node that may stand at a path keeps the nodes valid
 pub inserted_keeps : (m : Nodes) (path : Path) (new : Node) → CanStand m path new → AreValid (fin.insert m path new)
 inserted_keeps m path new can = (can.highest + 1, inserted_shape m path new can)
 
@@ -213,9 +223,11 @@ inserted_keeps m path new can = (can.highest + 1, inserted_shape m path new can)
 pub below_parent : (d p : Path) → is_at_or_below d p ≡ true → length d < length p → is_at_or_below d (parent_of p) ≡ true
 below_parent d p e lt = (below_Decides d (parent_of p)).1 ((below_Decides d p).0 e ∙ sym (take-take (length d) (length p - 1) p (omega arith)))
 
+-- a path at or below another is no shorter
 pub below_length : (d p : Path) → is_at_or_below d p ≡ true → length d ≤ length p
 below_length d p e = omega (arith, ap length ((below_Decides d p).0 e), length-take (length d) p)
 
+-- what is in a directory at or below a path is at or below it too
 pub below_up : (d p : Path) → is_at_or_below d (parent_of p) ≡ true → is_at_or_below d p ≡ true
 below_up d p e =
     let fits = below_length d (parent_of p) e in
@@ -254,6 +266,7 @@ parent_missing m valid path some none =
           absurd (mark_some m (parent_of path) (up.0, true) up.1 none)
     ] refl
 
+-- where nothing stands at a path, nothing stands below it
 pub valid_free : (t : Tree) → IsValid t → (to : Path) → fin.get t.nodes to ≡ None → (p : Path) → is_at_or_below to p ≡ true → fin.get t.nodes p ≡ None
 valid_free t s to none p e = free_below t.nodes (fin.len t.nodes) t.highest s to none (length p - length to) p (omega (arith, below_length to p e)) e
 
@@ -279,6 +292,7 @@ found_listed (e ∷ es) dir q node below long found =
       | false ↦ λ other f. more_listed (entry_in dir (e.0, e.1)) (filter_map (entry_in dir) es) (found_listed es dir q node below long f)
     ] refl found
 
+-- a directory with a child has an entry
 pub child_listed : (m : Nodes) (dir q : Path) (node : Node) → fin.get m q ≡ Some node → q ≢ [] → parent_of q ≡ dir → true ≡ nat_lt 0 (length (entries_in m dir))
 child_listed m dir q node is some parent =
     let long : length q ≡ length dir + 1 = omega (arith, some_names q some, ap length parent, length-take (length q - 1) q) in
@@ -322,6 +336,7 @@ module _ (m : Nodes) (path : Path) (h : ℕ) (s : IsShape (mark_at m) (fin.len m
     few = omega (arith, s.few, fewer (fin.contains_key m path) (fin.len m) (fin.len (fin.remove m path)) (fin.len-remove path_total m path));
   }
 
+-- removing a node that may leave keeps the nodes valid
 pub removed_keeps : (m : Nodes) (path : Path) → AreValid m → CanLeave m path → AreValid (fin.remove m path)
 removed_keeps m path valid can = (valid.0, removed_shape m path valid.0 valid.1 can)
 
@@ -342,6 +357,7 @@ parent_there m valid path there some =
       | Some node ↦ λ is _. valid.1.parents path node.uid (is_dir node.kind) (ap mark_of is) some
     ] refl there
 
+-- a node other than the root that has no entries may leave
 pub may_leave : (m : Nodes) (path : Path) → AreValid m → path ≢ [] → no_node m path ≡ None → nat_lt 0 (length (entries_in m path)) ≡ false → CanLeave m path
 may_leave m path valid named there bare = record {
   there = node_there m path there;
@@ -350,6 +366,7 @@ may_leave m path valid named there bare = record {
   up = parent_there m valid path (node_there m path there) named;
 }
 
+-- a node may leave where its removal is not refused
 pub can_leave : (t : Tree) (path : Path) → IsValid t → refusal_of t (Remove path) ≡ None → CanLeave t.nodes path
 can_leave t path s free =
     let a = first_none (at_root path) _ free in
@@ -436,6 +453,7 @@ module _ (m : Nodes) (from to : Path) (can : CanMove m from to) where
       ))
       (came q (uid, dir) is)
 
+  -- a move keeps the shape of the tree
   pub move_keeps : (c d h : ℕ) → d ≤ c → IsShape (mark_at m) c h → IsShape (mark_at (moved from to m)) d h
   move_keeps c d h fewer s = record {
     root = moved_not [] (below_root to can.to_named) (below_root from can.from_named) ∙ s.root;
@@ -464,6 +482,7 @@ made_of (e ∷ es) = omega (arith, made_of es, one_more (fin.contains_key (fin.f
     one_more true n k e = omega arith
     one_more false n k e = omega arith
 
+-- a move leaves no more nodes than there were
 pub fewer_moved : (from to : Path) (m : Nodes) → fin.len (moved from to m) ≤ fin.len m
 fewer_moved from to m =
     let moves : List (Path × Node) = map (λ e. (moved_path from to e.0, e.1)) (fin.entries m) in
@@ -492,6 +511,7 @@ not_at_or_below from to below differ = not_true (is_at_or_below from to) (λ e.
     let same : from ≡ to = (below_Decides from to).0 e ∙ take_all (length from) to (omega arith) in
     let wrong : true ≡ false = sym (is_same from to same) ∙ differ in cc)
 
+-- a node may move where its renaming is not refused and is to another path
 pub can_move : (t : Tree) (from to : Path) → IsValid t → rename_refusal t.nodes from to ≡ None → same_path from to ≡ false → CanMove t.nodes from to
 can_move t from to s free differ =
     let a = first_none (bad_name to) _ free in
@@ -544,6 +564,7 @@ done_keeps t (Rename from to) at free s = rename_keeps t from to at free s
 done_keeps t (Remove path) at free s = remove_keeps t path at free s
 done_keeps t Sync at free s = s
 
+-- each call leaves a valid tree valid
 pub next_valid : (t : Tree) (call : Call) (at : Moment) → IsValid t → IsValid (after t call at)
 next_valid t call at s =
     elim (refusal_of t call) as (λ r. refusal_of t call ≡ r → IsValid (after_unless r (after_done t call at) t)) [
@@ -563,6 +584,7 @@ only_root : (q : Path) (uid : ℕ) (dir : Bool) → cond {A = Option (ℕ × Boo
 only_root [] uid dir e = (refl, ap uid_in e)
 only_root (x ∷ q) uid dir e = cc
 
+-- the empty tree is valid
 pub first_valid : (at : Moment) → IsValid (empty_tree at)
 first_valid at = record {
   root = root_mark at [];

@@ -74,6 +74,7 @@ got t path offset count bytes file read =
     ap (λ (o : Option Refusal). answer_unless (first_of (o ∷ refuse_if (is_none (bytes_of (range_of (cells_at t.nodes path) offset count))) Damaged ∷ [])) (answers.Got (unwrap_or (bytes_of (range_of (cells_at t.nodes path) offset count)) []))) file
     ∙ ap (λ (o : Option (List ℕ)). answer_unless (first_of (None ∷ refuse_if (is_none o) Damaged ∷ [])) (answers.Got (unwrap_or o []))) read
 
+-- a read of what was just written gives the bytes that were written
 pub read_written : (t : Tree) (path : Path) (offset : ℕ) (bytes : List ℕ) (at : Moment) → 0 < length bytes → refusal_of t (Write path offset bytes) ≡ None
     → answer (after t (Write path offset bytes) at) (Read path offset (length bytes)) ≡ answers.Got bytes
 read_written t path offset [] at some free = absurd (omega arith)
@@ -177,6 +178,7 @@ module _ (m : Nodes) (from to : Path) (can : CanMove m from to) (there : fin.get
       names [] some = absurd (some refl)
       names (y ∷ x) some = omega arith
 
+-- a rename moves each node below the path and leaves all others
 pub rename_keeps_nodes : (t : Tree) (from to : Path) (at : Moment) → IsValid t → refusal_of t (Rename from to) ≡ None → HasMoved t (after t (Rename from to) at) from to
 rename_keeps_nodes t from to at s free =
     subst (λ (r : Option Refusal). HasMoved t (after_unless r (with_rename t from to at) t) from to) (sym free)

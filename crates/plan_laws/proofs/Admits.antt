@@ -46,6 +46,7 @@ run_leads f part pos a (suc n) e is =
       last = rest.last ∙ end_twice part (pos + (a + 1) + n) (pos + a + 1) e ∙ ap (λ (m : ℕ). with_end part m e) same;
     }
 
+-- the puts of a document lead to the end behind its blocks
 pub puts_lead : (size : ℕ) (part : Part) (pos : ℕ) (doc : List ℕ) (e : Ends) → end_of part e ≡ pos
     → Leads e (with_end part (pos + div_ceil (length doc) size) e) (puts size part pos doc)
 puts_lead size part pos doc e is =
@@ -117,6 +118,7 @@ ask_leads rules on s (index text) =
     (first_leads s.flush_due s.ends)
     (index_leads rules.block_size Dp s.ends.dp text s.ends refl)
 
+-- the ends go on with the ops that a space admits
 pub ends_go_on : EndsGoOn
 ends_go_on = record {
   ends = λ planned asked next. ops_end asked planned next;

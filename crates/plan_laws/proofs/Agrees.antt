@@ -30,5 +30,6 @@ same_tape : (s : Made) (part : Part) (pos byte : ℕ)
 same_tape s Ip pos byte = refl
 same_tape s Dp pos byte = refl
 
+-- what the theory of crashes plans with is this: at a start, with more ops, and as a tape
 pub plans_agree : PlansAgree
 plans_agree = record { begins = agrees_at_start; follows = agrees_on; tapes = same_tape }

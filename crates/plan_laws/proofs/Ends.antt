@@ -17,11 +17,13 @@ use Rattle.plan_laws.specs.Planned.{Items, ends_in, with_ops}
 abbrev pub with_op : Op → Items → Items
 with_op op made part = made part ++ put_by part op
 
+-- the items of two lists of ops are those of the first and then of the second
 pub ops_append : (part : Part) (xs ys : List Op) → items_by part (xs ++ ys) ≡ items_by part xs ++ items_by part ys
 ops_append part [] ys = refl
 ops_append part (op ∷ xs) ys = ap (λ (l : List Item). put_by part op ++ l) (ops_append part xs ys)
     ∙ sym (append_assoc (put_by part op) (items_by part xs) (items_by part ys))
 
+-- what a list of ops does is what its first does and then the others
 pub one_by_one : (part : Part) (op : Op) (ops : List Op) (made : Items)
     → with_ops (op ∷ ops) made part ≡ with_ops ops (with_op op made) part
 one_by_one part op ops made = sym (append_assoc (made part) (put_by part op) (items_by part ops))
@@ -31,6 +33,7 @@ one_by_one part op ops made = sym (append_assoc (made part) (put_by part op) (it
 ends_are : (a b c d : ℕ) → a ≡ c → b ≡ d → ◌≡◌ {A = Ends} (record { ip = a; dp = b }) (record { ip = c; dp = d })
 ends_are a b c d one other i = record { ip = one i; dp = other i }
 
+-- items that are alike have the same ends
 pub ends_alike : (one other : Items) → ((part : Part) → one part ≡ other part) → ends_in one ≡ ends_in other
 ends_alike one other same =
     ends_are (length (one Ip)) (length (one Dp)) (length (other Ip)) (length (other Dp)) (ap long (same Ip))
@@ -39,6 +42,7 @@ ends_alike one other same =
     long : List Item → ℕ
     long l = length l
 
+-- the end of a partition is the count of its items
 pub end_is : (part : Part) (items : Items) → end_of part (ends_in items) ≡ length (items part)
 end_is Ip items = refl
 end_is Dp items = refl
@@ -73,6 +77,7 @@ pub rest_next : (op : Op) (ops : List Op) (made : Items) → AreNext (ends_in ma
     → AreNext (ends_in (with_op op made)) ops
 rest_next op ops made next = subst (λ (e : Ends). AreNext e ops) (sym (op_ends op made next.0)) next.1
 
+-- the ends after ops are those behind the items that they put
 pub ops_end : (ops : List Op) (made : Items) → AreNext (ends_in made) ops
     → ends_in (with_ops ops made) ≡ after_ops (ends_in made) ops
 ops_end [] made next = none_ends made
@@ -83,6 +88,7 @@ ops_end (op ∷ ops) made next =
 
 -- ---- ops one after the other
 
+-- ops that come next, and more that come next behind them, come next together
 pub next_append : (e : Ends) (xs ys : List Op) → AreNext e xs → AreNext (after_ops e xs) ys → AreNext e (xs ++ ys)
 next_append e [] ys one other = other
 next_append e (x ∷ xs) ys one other = (one.0, next_append (after_op e x) xs ys one.1 other)

@@ -50,6 +50,7 @@ op_behind place e (Put at bytes) is next = put_here place.part at.part place.pos
 op_behind place e (Mark at) is next = put_here place.part at.part place.pos at.pos e is next
 op_behind place e (Flush at) is next = absurd (cc is)
 
+-- an op puts at or behind the end that its partition had
 pub puts_behind : (ops : List Op) (e : Ends) (place : Place) → AreNext e ops → IsPutBy ops place
     → end_of place.part e ≤ place.pos
 puts_behind [] e place next is = absurd (cc is)
@@ -80,6 +81,7 @@ op_past place e (Put at bytes) held is = past_held place.part at.part place.pos 
 op_past place e (Mark at) held is = absurd (cc is)
 op_past place e (Flush at) held is = absurd (cc is)
 
+-- where a later op puts at a place, the bytes that are held for it are held by the later ops
 pub rest_holds : (place : Place) (e : Ends) (op : Op) (ops : List Op) → AreNext e (op ∷ ops) → IsPutBy ops place
     → HasBytes (held_in place (op ∷ ops)) → HasBytes (held_in place ops)
 rest_holds place e op ops next put has = by (held_by place op) refl has.1
@@ -121,6 +123,7 @@ held_last place (op ∷ ops) asked has = by (held_by place op) (held_last place 
     by (Some held) later = (held, refl)
     by None later = later
 
+-- of two lists of ops that put at a place, one does
 pub put_by_either : (place : Place) (ops asked : List Op) → IsPutBy (ops ++ asked) place
     → IsPutBy ops place ⊎ IsPutBy asked place
 put_by_either place ops asked is =
@@ -169,6 +172,7 @@ marks_stored ends ops before next new bytes below none adds some at start all pa
     (stored_block before.block_size new bytes part pos some start all more))
     (adds part pos stands)
 
+-- no mark is put where a block of the tree stands
 pub marks_stay : MarksStay
 marks_stay = record {
   none = λ tree part pos stands put. absurd (cc put);

@@ -48,5 +48,6 @@ place_done planned op ops place d = record {
       (or_right (puts_at place (headed op)) (list_any (puts_at place) (map headed ops)) put));
 }
 
+-- what is done at a place stays done as ops are added and done
 pub places_stay : PlacesStay
 places_stay = record { wanted = place_wanted; added = place_added; done = place_done }

@@ -17,13 +17,16 @@ use Rattle.plan_laws.specs.Laws.{PlansHold}
 use Rattle.plan_laws.specs.Planned.{IsPlan, Items, ends_in, tape_on, with_ops}
 use Rattle.plan_laws.proofs.Ends.{end_is, ends_alike, next_append, one_by_one, ops_append, ops_end, rest_next, with_op}
 
+-- with no op what is planned is what was made
 abbrev pub plan_begins : (made : Items) → IsPlan made []
 plan_begins made = record { made = made; leads = λ part. sym (append-nil (made part)); next = tt }
 
+-- the ends of what is planned are those behind the ops
 pub plan_ends : (planned : Items) (ops : List Op) (p : IsPlan planned ops)
     → ends_in planned ≡ after_ops (ends_in p.made) ops
 plan_ends planned ops p = ends_alike planned (with_ops ops p.made) p.leads ∙ ops_end ops p.made p.next
 
+-- with more ops at its ends a plan grows by what they put
 abbrev pub plan_grows : (planned : Items) (ops asked : List Op) → IsPlan planned ops → AreNext (ends_in planned) asked
     → IsPlan (with_ops asked planned) (ops ++ asked)
 plan_grows planned ops asked p next = record {
@@ -36,6 +39,7 @@ plan_grows planned ops asked p next = record {
       (subst (λ (e : Ends). AreNext e asked) (plan_ends planned ops p) next);
 }
 
+-- a plan stays when its first op is done
 abbrev pub plan_done : (planned : Items) (op : Op) (ops : List Op) → IsPlan planned (op ∷ ops) → IsPlan planned ops
 plan_done planned op ops p = record {
   made = with_op op p.made;
@@ -90,6 +94,7 @@ first_held (Put at b) later made place bytes next is =
 first_held (Mark at) later made place bytes next is = absurd (cc is)
 first_held (Flush at) later made place bytes next is = absurd (cc is)
 
+-- what an op holds for a place stands there once all are done
 pub held_stands : (ops : List Op) (made : Items) (place : Place) (bytes : List ℕ) → AreNext (ends_in made) ops
     → held_in place ops ≡ Some bytes
     → slice_get (with_ops ops made place.part) place.pos ≡ Some (item.Block bytes)
@@ -106,11 +111,13 @@ held_stands (op ∷ ops) made place bytes next is =
     by None first here rest =
         ap (λ (l : List Item). slice_get l place.pos) (one_by_one place.part op ops made) ∙ rest here
 
+-- what an op holds for a place is planned there
 pub plan_held : (planned : Items) (ops : List Op) (place : Place) (bytes : List ℕ) → IsPlan planned ops
     → held_in place ops ≡ Some bytes → IsBlock (tape_on planned) place bytes
 plan_held planned ops place bytes p is byte =
     ap (λ (o : Option Item). byte_in o byte)
     (ap (λ (l : List Item). slice_get l place.pos) (p.leads place.part) ∙ held_stands ops p.made place bytes p.next is)
 
+-- a plan grows by ops, stays as they are done, and has what they hold
 pub plans_hold : PlansHold
 plans_hold = record { begins = plan_begins; grows = plan_grows; done = plan_done; held = plan_held }

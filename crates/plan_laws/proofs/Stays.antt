@@ -83,6 +83,7 @@ all_gathered planned asked read (piece ∷ pieces) below =
     ∙ ap (λ (l : List Cell). gathered_piece (tape_on planned) read piece ++ l)
     (all_gathered planned asked read pieces below.1)
 
+-- what lies before an end lies before it once ops are added
 pub further : (planned : Items) (asked : List Op) (part : Part) (pos : ℕ) → pos < end_of part (ends_in planned)
     → pos < end_of part (ends_in (with_ops asked planned))
 further planned asked part pos lt =
@@ -130,6 +131,7 @@ is_late planned asked tree g on st ask below is ends some = record {
   holds = holds_stored planned asked g on st ask is ends some;
 }
 
+-- below the ends nothing on tape changes as ops are added
 pub tapes_stay : TapesStay
 tapes_stay = record {
   alike = tree_alike;

@@ -65,6 +65,7 @@ is_block size k count some lt = ⊎_elim
     absurd (omega (arith, more, lt, is_enough size count some)))
     (cases_lt k (div_ceil count size))
 
+-- each block of a document is held by one of its puts
 pub puts_held : (size : ℕ) (part : Part) (pos : ℕ) (doc : List ℕ) (k : ℕ) → 1 ≤ size → k * size < length doc
     → held_in (record { part = part; pos = pos + k }) (puts size part pos doc) ≡ Some (block_at size doc k)
 puts_held size part pos doc k some lt =
@@ -91,6 +92,7 @@ on_part : (items : Items) (part : Part) → items_of part (cartridge_with items)
 on_part items Ip = refl
 on_part items Dp = refl
 
+-- bytes that were put stand on the tape that is planned
 pub stored_bytes : (planned : Items) (size : ℕ) (part : Part) (pos : ℕ) (bytes : List ℕ) → 1 ≤ size
     → end_of part (ends_in planned) ≡ pos
     → HoldsBytes (tape_on (with_ops (puts size part pos bytes) planned)) size (run_of part pos (length bytes)) bytes

@@ -54,6 +54,7 @@ op_or_not place e (Put at bytes) next low = put_or_not place.part at.part place.
 op_or_not place e (Mark at) next low = put_or_not place.part at.part place.pos at.pos e next low
 op_or_not place e (Flush at) next low = inr low
 
+-- a place between the ends before and after the ops is put by one of them
 pub is_put : (ops : List Op) (e : Ends) (place : Place) → AreNext e ops → end_of place.part e ≤ place.pos
     → place.pos < end_of place.part (after_ops e ops) → IsPutBy ops place
 is_put [] e place next low high = absurd (omega (arith, low, high))
@@ -113,6 +114,7 @@ place_found planned ops place got block held w d found byte =
     ap (λ (o : Option Item). byte_in o byte) (sym (place_stands planned ops place held w d))
     ∙ read_bytes (item_at place held) got block found byte
 
+-- what the head reads, and what an op holds, is what is planned there
 pub tapes_tell : TapesTell
 tapes_tell = record {
   reaches = way_reaches;

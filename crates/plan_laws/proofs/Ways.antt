@@ -63,6 +63,7 @@ mounted_ends c m h =
 
 -- ---- how far the cartridge goes
 
+-- what begins with a list is no shorter than it
 pub made_long : (made : List Item) (l : List Item) → take (length made) l ≡ made → length made ≤ length l
 made_long made l reads = omega (arith, sym (ap (λ (m : List Item). length m) reads) ∙ length-take (length made) l)
 
@@ -71,6 +72,7 @@ pub first_at : (op : Op) (ops : List Op) (made : Items) → AreNext (ends_in mad
     → (place_of op).pos ≡ length (made (place_of op).part)
 first_at op ops made next = next.0 ∙ end_is (place_of op).part made
 
+-- on the way to what is planned the head reaches the place of the first op
 pub way_reaches : (planned : Items) (op : Op) (ops : List Op) (held : Cartridge) → IsOnWay planned (op ∷ ops) held
     → (place_of op).pos ≤ length (items_of (place_of op).part held)
 way_reaches planned op ops held w =
@@ -178,6 +180,7 @@ way_alike one other ops held same w = record {
   reads = w.reads;
 }
 
+-- a cartridge stays on its way as ops are admitted, done or failed
 pub ways_go_on : WaysGoOn
 ways_go_on = record {
   begins = λ c m h. way_begins c;

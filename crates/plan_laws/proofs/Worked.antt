@@ -34,6 +34,7 @@ torn_reads : (part : Part) → take (length (made part)) (items_of part (with_dp
 torn_reads Ip = refl
 torn_reads Dp = refl
 
+-- the worked plans are ways, or aren't, as told
 pub tells_plans : TellsPlans
 tells_plans = record {
   torn = record {

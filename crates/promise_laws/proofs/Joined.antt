@@ -43,6 +43,7 @@ module _ {D : Type 0} (drive : Ghosts D) (v w : View D) (fixed : Fixed D) (same 
   safe_here p h = subst (λ (f : Fixed D). IsSafeNow drive p (drive.limits f.first) w) same h
 
 module _ {D : Type 0} (drive : Ghosts D) where
+  -- what is kept is all that is promised
   pub kept_is_promised : KeptIsPromised drive
   kept_is_promised fixed plan v kept on = record {
     orderly = kept.order.orderly;
@@ -62,6 +63,7 @@ module _ {D : Type 0} (drive : Ghosts D)
       let safe = starts_are_safe drive counts_now fixed next can (mounts can) in
       (record { labels = can.reads_as.0.reads.found.labels; made = made_of can.held can.reads_as.0.reads.found.on_ip safe.0 }, safe.2)
 
+  -- all is kept of a volume of which nothing was asked yet
   pub volumes_begin_kept : VolumesBegin drive
   volumes_begin_kept fixed next sessions mounts = (
     λ can. (begins fixed next mounts can).0,
@@ -103,6 +105,7 @@ module _ {D : Type 0} (drive : Ghosts D)
     };
   }
 
+  -- a submission keeps order, truth and safety
   pub submissions_keep_all : SubmissionsKeep drive
   submissions_keep_all fixed plan old new who nth answer kept may s rightly = by fixed plan kept.fixed_is kept rightly
     where
@@ -112,6 +115,7 @@ module _ {D : Type 0} (drive : Ghosts D)
           → SubmitsRightly drive f plan old new who nth s.added answer → IsKeptOn drive f plan old new) same
           (λ plan kept rightly. submissions_of_old old new plan who nth answer kept may s rightly) plan
 
+  -- a turn of a session that waits keeps order, truth and safety
   pub turns_keep_all : TurnsKeep drive
   turns_keep_all fixed plan most old new who ticket answer kept waiting t rightly =
       let order = turns_keep drive most old new who ticket answer kept.order waiting t rightly.order in
@@ -124,6 +128,7 @@ module _ {D : Type 0} (drive : Ghosts D)
             (kept.safe can) t (rightly.driven can) order.orderly.trail kept.order.orderly.standing;
       }
 
+  -- a turn of a session that drains keeps order, truth and safety
   pub drain_turns_keep_all : DrainTurnsKeep drive
   drain_turns_keep_all fixed plan most old new who answer kept drains t rightly =
       let order = drain_turns_keep drive most old new who answer kept.order drains t rightly.order in

@@ -27,6 +27,7 @@ use Rattle.reply_laws.proofs.Lists.{picks_none}
 
 -- ---- views, said of their parts
 
+-- all that the events tell of blocks, writes and syncs of a history
 pub record AsksOf (g : Given) (on : Option ℕ) (history : List Placed) (trail : List Event) : Type 0 where
   pub of_reads : AreOfReads g.calls history trail
   pub needed : AreNeeded g on history trail
@@ -35,9 +36,11 @@ pub record AsksOf (g : Given) (on : Option ℕ) (history : List Placed) (trail :
   pub grouped : AreGrouped g on history trail
   pub begun : AreBegun history trail
 
+-- what a volume asks truly, said of its history and events
 pub ask_parts : {D : Type 0} (first : Drive) (v : View D) → AsksTruly first v → AsksOf (given v first) v.on v.history v.events
 ask_parts first v is = record { of_reads = is.of_reads; needed = is.needed; asked = is.asked; put_off = is.put_off; grouped = is.grouped; begun = is.begun }
 
+-- what is said of history and events makes a volume that asks truly
 pub ask_whole : {D : Type 0} (first : Drive) (old new : View D) (on : Option ℕ) (history : List Placed) (trail : List Event) → new.fixed ≡ old.fixed → new.on ≡ on → new.history ≡ history → new.events ≡ trail
     → AsksOf (given old first) on history trail → AsksTruly first new
 ask_whole first old new on history trail is_fixed is_on is_history is_events is =
@@ -47,6 +50,7 @@ ask_whole first old new on history trail is_fixed is_on is_history is_events is 
     let d = subst (λ es. AsksOf (given new first) new.on new.history es) (sym is_events) c in
     record { of_reads = d.of_reads; needed = d.needed; asked = d.asked; put_off = d.put_off; grouped = d.grouped; begun = d.begun }
 
+-- nothing is in a list that is empty
 pub none_of : {X : Type 0} (xs : List X) (x : X) → xs ≡ [] → Contains xs x → ⊥
 none_of xs x none has = omega (arith, has.1, ap length none)
 
@@ -113,6 +117,7 @@ answer_syncs : (e : Event) → is_answer e ≡ true → syncs_ticket e ≡ None
 answer_syncs (events.Synced ticket) h = refl
 answer_syncs _ h = cc
 
+-- a step of the head with its answers asks nothing
 pub steps_ask_nothing : (made rest : List Event) → AreOfStep made → filter_map want_of rest ≡ [] → filter_map syncs_ticket rest ≡ [] → AskNothing (made ++ rest)
 steps_ask_nothing made rest shape wants syncs = record {
   wants = filter_map-append want_of made rest ∙ ap (λ xs. xs ++ filter_map want_of rest) (step_picks want_of step_wants answer_wants made shape) ∙ wants;
@@ -126,6 +131,7 @@ step_asks first old new made rest is fixed on history trail shape wants syncs as
     ask_whole first old new (on_after old made) old.history (old.events ++ (made ++ rest)) fixed on history trail
     (asks_on (given old first) (on_after old made) old.on old.history old.history (λ k p. ⊥) old.events (made ++ rest) (stays_there old.history) (agree_after (given old first).mounted old made) is.ops (steps_ask_nothing made rest shape wants syncs) (λ k p never. absurd never) (ask_parts first old asks))
 
+-- a turn of a session that waits leaves what is asked true
 pub turns_ask_truly : {D : Type 0} (seen : D → Drive) → TurnsAskTruly seen
 turns_ask_truly seen most first before now old new who ticket answer is t asks =
     step_asks (seen first) old new t.added [] is t.fixed t.step.on t.history (t.adds.events ∙ ap (λ es. old.events ++ es) (sym (append-nil t.added))) t.step.shape refl refl asks
@@ -140,5 +146,6 @@ drained_asks most first before now old new who drained.Room is d asks =
 drained_asks most first before now old new who drained.More is d asks =
     step_asks first old new d.made [] is d.fixed d.step.on d.answered.3.history d.adds.events d.step.shape refl refl asks
 
+-- a turn of a session that drains leaves what is asked true
 pub drain_turns_ask_truly : {D : Type 0} (seen : D → Drive) → DrainTurnsAskTruly seen
 drain_turns_ask_truly seen most first before now old new who answer is d asks = drained_asks most (seen first) (seen before) (seen now) old new who answer is d asks

@@ -129,6 +129,7 @@ wants_queue : (here : ℕ) (places : List Place) → filter_map queued (map (λ 
 wants_queue here [] = refl
 wants_queue here (p ∷ ps) = wants_queue here ps
 
+-- a submission queues the ops of a write or of a sync, and nothing for a read
 pub queue_their_ops : QueueTheirOps
 queue_their_ops = record {
   write = queues_back;
@@ -144,6 +145,7 @@ queue_their_ops = record {
 no_place : {P : Type 0} (history : List Placed) (k : ℕ) (p : Placed) → history ≡ [] → slice_get history k ≡ Some p → P
 no_place history k p none at = absurd (omega (arith, get_within history k p at, ap length none))
 
+-- a volume of which nothing was asked yet asks truly
 pub asking_begins : {D : Type 0} (seen : D → Drive) → AskingBegins seen
 asking_begins seen first v none quiet = record {
   of_reads = λ ticket place has. absurd (none_of (filter_map want_of v.events) (ticket, place) (ap (filter_map want_of) quiet) has);
@@ -313,5 +315,6 @@ submitted_asks first now old new who nth submitted.Drain is_old is_new cache s i
     (asks_on (given old first) old.on old.on old.history old.history (λ k p. ⊥) old.events s.added (stays_there old.history) (agree_always (given old first).mounted old.on (length old.history)) is_old.ops
     (record { wants = ap (filter_map want_of) s.of_it; syncs = ap (filter_map syncs_ticket) s.of_it }) (λ k p never. absurd never) (ask_parts first old is))
 
+-- a submission leaves what is asked true
 pub submissions_ask_truly : {D : Type 0} (seen : D → Drive) → SubmissionsAskTruly seen
 submissions_ask_truly seen first now old new who nth answer is_old is_new cache s is = submitted_asks (seen first) (seen now) old new who nth answer is_old is_new cache s is

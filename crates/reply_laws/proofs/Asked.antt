@@ -35,9 +35,11 @@ pub record GoesTo (history later : List Placed) (Next : ℕ → Placed → Type 
   pub which : (k : ℕ) (p : Placed) → slice_get later k ≡ Some p → (slice_get history k ≡ Some p) ⊎ Next k p
   pub longer : length history ≤ length later
 
+-- a history goes on by nothing
 pub stays_there : (history : List Placed) → GoesTo history history (λ k p. ⊥)
 stays_there history = record { kept = λ k p at. at; same = λ k within. refl; which = λ k p at. inl at; longer = omega arith }
 
+-- a history goes on by one placement at its end
 pub goes_next : (history : List Placed) (p : Placed) → GoesTo history (history ++ p ∷ []) (λ k q. (k ≡ length history) × (p ≡ q))
 goes_next history p = record {
   kept = λ k q at. slice_get-append history (p ∷ []) k (get_within history k q at) ∙ at;
@@ -59,9 +61,11 @@ picked f before added x has = Contains-append_cases (filter_map f before) (filte
 pub picked_before : {X : Type 0} (f : Event → Option X) (before added : List Event) (x : X) → Contains (filter_map f before) x → Contains (filter_map f (before ++ added)) x
 picked_before f before added x has = subst (λ xs. Contains xs x) (sym (filter_map-append f before added)) (Contains-append_left (filter_map f before) (filter_map f added) x has)
 
+-- what added events bring is brought by the longer trail
 pub picked_later : {X : Type 0} (f : Event → Option X) (before added : List Event) (x : X) → Contains (filter_map f added) x → Contains (filter_map f (before ++ added)) x
 picked_later f before added x has = subst (λ xs. Contains xs x) (sym (filter_map-append f before added)) (Contains-append_right (filter_map f before) (filter_map f added) x has)
 
+-- a place that was touched stays touched
 pub touched_before : (place : Place) (before added : List Event) → list_any (touches place) before ≡ true → list_any (touches place) (before ++ added) ≡ true
 touched_before place before added e = list_any-append (touches place) before added ∙ or_left (list_any (touches place) before) (list_any (touches place) added) e
 
@@ -71,6 +75,7 @@ stands_same : (g : Given) (on off : Option ℕ) (history later : List Placed) (k
 stands_same g on off history later k less same agree = at_place (λ b st. st) g on off history later k less same agree
 
 module _ (g : Given) (on off : Option ℕ) (history later : List Placed) (Next : ℕ → Placed → Type 0) (before added : List Event) (goes : GoesTo history later Next) (agree : Agree g.mounted on off (length history)) where
+  -- each block is still asked for by a read that is done
   pub of_reads_on : AreOfReads g.calls history before
       → ((ticket : ℕ) (place : Place) → Contains (filter_map want_of added) (ticket, place) → (p : Placed) × (slice_get later ticket ≡ Some p) × (p.fate ≡ fates.Done) × (is_read (call_at g.calls p) ≡ true))
       → AreOfReads g.calls later (before ++ added)
@@ -80,6 +85,7 @@ module _ (g : Given) (on off : Option ℕ) (history later : List Placed) (Next :
       by (inl old) = let q = are ticket place old in (q.0, goes.kept ticket q.0 q.1, q.2, q.3)
       by (inr new) = more ticket place new
 
+  -- each block that is asked for is still one that its read needs
   pub needed_on : AreNeeded g off history before
       → ((ticket : ℕ) (place : Place) → Contains (filter_map want_of added) (ticket, place) → (p : Placed) × (slice_get later ticket ≡ Some p) × Contains (blocks_of (standing g on later ticket) (call_at g.calls p)) place)
       → AreNeeded g on later (before ++ added)
@@ -95,6 +101,7 @@ module _ (g : Given) (on off : Option ℕ) (history later : List Placed) (Next :
           )
       by (inr new) = more ticket place new
 
+  -- each block that a read needs is still asked for, or was touched
   pub asked_on : AreAsked g off history before
       → ((k : ℕ) (p : Placed) (place : Place) → Next k p → p.fate ≡ fates.Done → Contains (blocks_of (standing g on later k) (call_at g.calls p)) place
       → Contains (filter_map want_of (before ++ added)) (k, place) ⊎ (list_any (touches place) (before ++ added) ≡ true))
@@ -117,6 +124,7 @@ module _ (g : Given) (on off : Option ℕ) (history later : List Placed) (Next :
 abbrev pub stood_later : State → List Event → List ℕ
 stood_later st added = filter_map (λ n. n) (scan after stood_at st added)
 
+-- how many ops stood as each was queued, over a trail that goes on
 pub stood_append : (before added : List Event) → stood (before ++ added) ≡ stood before ++ stood_later (after_all before) added
 stood_append before added =
     ap (filter_map (λ n. n)) (scan-append after stood_at start before added) ∙ filter_map-append (λ n. n) (scan after stood_at start before) (scan after stood_at (after_all before) added)
@@ -136,6 +144,7 @@ stood_from st [] = refl
 stood_from st (e ∷ more) =
     omega (arith, stood_one st e, stood_from (after st e) more, ap length (filter_map-append (λ n. n) (stood_at st e ∷ []) (scan after stood_at (after st e) more)), length-append (filter_map (λ n. n) (stood_at st e ∷ [])) (stood_later (after st e) more), ap length (filter_map-append queued (e ∷ []) more), length-append (filter_map queued (e ∷ [])) (filter_map queued more))
 
+-- for each op that is queued it is told how many stood
 pub stood_long : (trail : List Event) → length (stood trail) ≡ length (filter_map queued trail)
 stood_long trail = stood_from start trail
 
@@ -164,6 +173,7 @@ below_all g on history k p at some =
     let two = subst (λ h. length (admitted g on (take k history)) + length (admitted_at g on h (length (take k history)) p) ≤ length (admitted g on h)) (parted history k p at) one in
     omega (arith, some, subst (λ n. length (admitted g on (take k history)) + length (admitted_at g on history n p) ≤ length (admitted g on history)) long two)
 
+-- the first op of each write is still queued where at most 64 stand
 pub put_off_on : (g : Given) (on off : Option ℕ) (history later : List Placed) (Next : ℕ → Placed → Type 0) (before added : List Event) → GoesTo history later Next → Agree g.mounted on off (length history)
     → filter_map queued before ≡ map place_of (admitted g off history) → ArePutOff g off history before
     → ((k : ℕ) (p : Placed) → Next k p → is_write_at (call_at g.calls p) ≡ true → 0 < length (admitted_at g on later k p)
@@ -191,6 +201,7 @@ put_off_on g on off history later Next before added goes agree queues are more k
 
 -- ---- syncs
 
+-- each sync still begins once all ops admitted up to it are queued
 pub grouped_on : (g : Given) (on off : Option ℕ) (history later : List Placed) (Next : ℕ → Placed → Type 0) (before added : List Event) → GoesTo history later Next → Agree g.mounted on off (length history)
     → AreBegun history before → AreGrouped g off history before
     → ((front rest : List Event) (ticket : ℕ) → added ≡ front ++ events.Syncs ticket ∷ rest → length (filter_map queued (before ++ front)) ≡ length (admitted g on (take (ticket + 1) later)))
@@ -206,6 +217,7 @@ grouped_on g on off history later Next before added goes agree begun are more fr
         are front old.0 ticket old.1
         ∙ sym (ap (λ h. length (admitted g on h)) (goes.same (ticket + 1) (omega (arith, less))) ∙ ap length (admitted_alike g on off (take (ticket + 1) history) agreed))
 
+-- each sync that began still has its place in the history
 pub begun_on : (history later : List Placed) (Next : ℕ → Placed → Type 0) (before added : List Event) → GoesTo history later Next → AreBegun history before
     → ((ticket : ℕ) → Contains (filter_map syncs_ticket added) ticket → ticket < length later) → AreBegun later (before ++ added)
 begun_on history later Next before added goes are more ticket has = by (picked syncs_ticket before added ticket has)

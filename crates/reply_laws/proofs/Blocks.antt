@@ -34,6 +34,7 @@ part_is Ip Dp e = cc
 part_is Dp Ip e = cc
 part_is Dp Dp e = refl
 
+-- numbers that the test calls equal are equal
 pub number_is : (m n : ℕ) → (m == n) ≡ true → m ≡ n
 number_is m n e = grind (arith, e)
 
@@ -49,6 +50,7 @@ part_itself : (p : Part) → same_part p p ≡ true
 part_itself Ip = refl
 part_itself Dp = refl
 
+-- the test calls a number equal to itself
 pub number_itself : (n : ℕ) → (n == n) ≡ true
 number_itself n = by (n == n) refl
   where
@@ -238,10 +240,12 @@ reads_ask : (here : ℕ) (places : List Place) → filter_map want_of (map (λ p
 reads_ask here [] = refl
 reads_ask here (p ∷ ps) = ap (λ more. (here, p) ∷ more) (reads_ask here ps)
 
+-- queued ops bring nothing where an event of that kind brings nothing
 pub queues_want : {X : Type 0} (f : Event → Option X) → ((place : Place) → f (events.Queues place) ≡ None) → (places : List Place) → filter_map f (queues_at places) ≡ []
 queues_want f none [] = refl
 queues_want f none (p ∷ ps) = picks_none f (events.Queues p) (queues_at ps) (none p) ∙ queues_want f none ps
 
+-- an answer of a sync brings nothing where an event of that kind brings nothing
 pub synced_want : {X : Type 0} (f : Event → Option X) → ((ticket : ℕ) → f (events.Synced ticket) ≡ None) → (here : ℕ) (stand : List Op) → filter_map f (synced_at here stand) ≡ []
 synced_want f none here [] = picks_none f (events.Synced here) [] (none here)
 synced_want f none here (o ∷ more) = refl
@@ -256,6 +260,7 @@ sync_wants f queues syncs synced here places stand =
 both_none : (here : ℕ) (added : List Event) → filter_map want_of added ≡ [] → filter_map wanted added ≡ [] → filter_map want_of added ≡ asked_at here (filter_map wanted added)
 both_none here added a b = a ∙ sym (ap (asked_at here) b)
 
+-- the blocks that a submission asks for are asked for by its own place
 pub wants_here : (here : ℕ) (before : List Event) (call : Option Call) (added : List Event) → IsOfDone here before call added → filter_map want_of added ≡ asked_at here (filter_map wanted added)
 wants_here here before None added is = both_none here added (ap (filter_map want_of) is) (ap (filter_map wanted) is)
 wants_here here before (Some Sync) added is =
@@ -273,6 +278,7 @@ reads_need st None place has = absurd (in_none place has)
 reads_need st (Some (Read path offset count)) place has = refl
 reads_need st (Some _) place has = absurd (in_none place has)
 
+-- a block asked for by a place is of that place and among its blocks
 pub pair_back : (here : ℕ) (places : List Place) (ticket : ℕ) (place : Place) → Contains (asked_at here places) (ticket, place) → (ticket ≡ here) × Contains places place
 pair_back here [] ticket place has = absurd (in_none (ticket, place) has)
 pair_back here (p ∷ ps) ticket place has = by (pair_back here ps ticket place) (in_cases (here, p) (asked_at here ps) (ticket, place) has)
@@ -281,6 +287,7 @@ pair_back here (p ∷ ps) ticket place has = by (pair_back here ps ticket place)
     by back (inl e) = (sym (ap (λ (x : ℕ × Place). x.0) e), subst (λ q. Contains (p ∷ ps) q) (ap (λ (x : ℕ × Place). x.1) e) (in_first p ps))
     by back (inr more) = let q = back more in (q.0, in_rest p ps place q.1)
 
+-- each of a place's blocks is asked for by that place
 pub pair_there : (here : ℕ) (places : List Place) (place : Place) → Contains places place → Contains (asked_at here places) (here, place)
 pair_there here [] place has = absurd (in_none place has)
 pair_there here (p ∷ ps) place has = by (pair_there here ps place) (in_cases p ps place has)

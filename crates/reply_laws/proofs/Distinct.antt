@@ -13,6 +13,7 @@ use Rattle.block_cache.specs.Kept.{Kept, is_cached, stands_at}
 use Rattle.serving_promise.specs.Cached.{was_read}
 use Rattle.reply_laws.proofs.Lists.{in_cases, in_first, in_none, in_rest}
 
+-- a place that the test finds in a list is in it
 pub has_in : (place : Place) (places : List Place) → has_place place places ≡ true → Contains places place
 has_in place [] e = absurd cc
 has_in place (x ∷ xs) e = by (has_in place xs) (same_place place x) refl
@@ -21,6 +22,7 @@ has_in place (x ∷ xs) e = by (has_in place xs) (same_place place x) refl
     by more true is = subst (λ y. Contains (y ∷ xs) place) (same_places place x is) (in_first place xs)
     by more false is = in_rest x xs place (more (sym (ap (λ b. b || has_place place xs) is) ∙ e))
 
+-- a place in a list is found by the test
 pub in_has : (place : Place) (places : List Place) → Contains places place → has_place place places ≡ true
 in_has place [] has = absurd (in_none place has)
 in_has place (x ∷ xs) has = ⊎_elim
@@ -28,14 +30,17 @@ in_has place (x ∷ xs) has = ⊎_elim
     (λ later. or_right (same_place place x) (has_place place xs) (in_has place xs later))
     (in_cases x xs place has)
 
+-- a place that is kept once was in the list
 pub in_distinct : (xs : List Place) (y : Place) → Contains (distinct xs) y → Contains xs y
 in_distinct xs y has = has_in y xs (sym (has_distinct xs y) ∙ in_has y (distinct xs) has)
 
+-- each place of the list is kept once
 pub distinct_in : (xs : List Place) (y : Place) → Contains xs y → Contains (distinct xs) y
 distinct_in xs y has = has_in y (distinct xs) (has_distinct xs y ∙ in_has y xs has)
 
 -- ---- those for which a test holds
 
+-- what is left of a list by a test was in it
 pub in_filter : {X : Type 0} (p : X → Bool) (xs : List X) (x : X) → Contains (filter p xs) x → Contains xs x
 in_filter p [] x has = absurd (in_none x has)
 in_filter p (y ∷ ys) x has = by (p y) has (in_filter p ys x)
@@ -44,6 +49,7 @@ in_filter p (y ∷ ys) x has = by (p y) has (in_filter p ys x)
     by true has more = ⊎_elim (λ is. subst (λ z. Contains (z ∷ ys) x) (sym is) (in_first x ys)) (λ later. in_rest y ys x (more later)) (in_cases y (filter p ys) x has)
     by false has more = in_rest y ys x (more has)
 
+-- what is in a list and passes the test is left
 pub filter_in : {X : Type 0} (p : X → Bool) (xs : List X) (x : X) → Contains xs x → p x ≡ true → Contains (filter p xs) x
 filter_in p [] x has holds = absurd (in_none x has)
 filter_in p (y ∷ ys) x has holds = by (p y) refl (in_cases y ys x has) (filter_in p ys x)

@@ -146,6 +146,7 @@ drains_by most before now old new who drained.More is d are =
 none_drains : {P : Type 0} (who : ℕ) (marks : List Mark) → marks ≡ [] → phase who marks ≡ draining → P
 none_drains who marks none drains = idle_never (sym (ap (phase who) none) ∙ drains)
 
+-- the next call of each session that drains is a write, over each call of the volume
 pub drains_stay_for_writes : {D : Type 0} (seen : D → Drive) → DrainsStayForWrites seen
 drains_stay_for_writes seen = record {
   begins = λ v none who drains. none_drains who v.marks none drains;

@@ -24,6 +24,7 @@ owned_on events added =
     ap (filter_map (λ o. o)) (scan-append after (λ st e. both (owner_of st e) (fault_of e)) start events added)
     ∙ filter_map-append (λ o. o) (scan after (λ st e. both (owner_of st e) (fault_of e)) start events) (scan after (λ st e. both (owner_of st e) (fault_of e)) (after_all events) added)
 
+-- who owns a fault keeps it, whatever events follow
 pub owners_keep_faults : OwnersKeepFaults
 owners_keep_faults owner events added counts has =
     let later = filter_map (λ o. o) (scan after (λ st e. both (owner_of st e) (fault_of e)) (after_all events) added) in
@@ -48,6 +49,7 @@ queued_or_done events = omega (arith, ever_from start events)
 
 -- ---- what a step has done
 
+-- the end of a trail is one from where its front ends
 pub trail_behind : (events added : List Event) → IsTrail (events ++ added) → is_trail_from (after_all events) added ≡ true
 trail_behind events added is =
     and_second (list_all (λ may. may) (scan after allows start events)) (is_trail_from (after_all events) added)
@@ -85,6 +87,7 @@ or_second : (a b : Bool) → (a || b) ≡ false → b ≡ false
 or_second false b e = e
 or_second true b e = cc
 
+-- events of which none does an op leave the number of ops done
 pub none_done : (st : State) (events : List Event) → list_any does_op events ≡ false → (fold after st events).done ≡ st.done
 none_done st [] h = refl
 none_done st (e ∷ later) h = none_done (after st e) later (or_second (does_op e) (list_any does_op later) h) ∙ kept_one st e (or_first (does_op e) (list_any does_op later) h)
@@ -127,6 +130,7 @@ answers_queue_none (a ∷ later) all =
     picks_none queued a later (answer_queues a (all 0 a (omega arith)))
     ∙ answers_queue_none later (λ k d less. all (suc k) d (omega (arith, less)))
 
+-- a step of the head queues nothing
 pub steps_queue_none : (made : List Event) → AreOfStep made → filter_map queued made ≡ []
 steps_queue_none _ no_step = refl
 steps_queue_none _ (one_step e answers step all) = picks_none queued e answers (step_queues e step) ∙ answers_queue_none answers all

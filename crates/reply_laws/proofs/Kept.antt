@@ -30,6 +30,7 @@ pub record TrueOf (g : Given) (on : Option ℕ) (history : List Placed) (events 
   pub queues : filter_map queued events ≡ map place_of (admitted g on history)
   pub standing : AreStanding g on history events stand
 
+-- a true volume is true of its history, events, replies and ops
 pub parts : {D : Type 0} (first : Drive) (v : View D) → IsTrue first v → TrueOf (given v first) v.on v.history v.events v.replies v.ops
 parts first v is = record { replies = is.replies; queues = is.ops; standing = is.standing }
 

@@ -8,6 +8,7 @@ use Rattle.std.proofs.lemmas.Option.{same_Some}
 
 -- ---- lists with their places
 
+-- two lists numbered together are the first, and the second from its length on
 pub enumerate_append : {X : Type 0} (n : ℕ) (xs ys : List X) → enumerate_from n (xs ++ ys) ≡ enumerate_from n xs ++ enumerate_from (n + length xs) ys
 enumerate_append n [] ys = let e : n ≡ n + 0 = omega arith in ap (λ k. enumerate_from k ys) e
 enumerate_append n (x ∷ xs) ys =
@@ -28,6 +29,7 @@ fold_same f h n (x ∷ xs) s same =
     ap (λ t. fold f t (enumerate_from (n + 1) xs)) (same n s x (omega arith))
     ∙ fold_same f h (n + 1) xs (h s (n, x)) (λ k t y less. same k t y (omega (arith, less)))
 
+-- what is made of each place is the same where it is the same at each
 pub flat_map_same : {X Y : Type 0} (f h : ℕ × X → List Y) (n : ℕ) (xs : List X) → ((k : ℕ) (x : X) → k < n + length xs → f (k, x) ≡ h (k, x))
     → flat_map f (enumerate_from n xs) ≡ flat_map h (enumerate_from n xs)
 flat_map_same f h n [] same = refl
@@ -39,6 +41,7 @@ flat_map_same f h n (x ∷ xs) same =
 
 -- ---- what stands at a place
 
+-- a place at which nothing stands is past the list
 pub get_past : {X : Type 0} (xs : List X) (k : ℕ) → slice_get xs k ≡ None → length xs ≤ k
 get_past [] k e = omega arith
 get_past (x ∷ xs) zero e = cc
@@ -64,19 +67,23 @@ next_same xs x y e = first_same x y (append_cancel_left xs (x ∷ []) (y ∷ [])
 
 -- ---- tests
 
+-- of two truths together, the first is true
 pub and_first : (a b : Bool) → (a && b) ≡ true → a ≡ true
 and_first true b e = refl
 and_first false b e = cc
 
+-- of two truths together, the second is true
 pub and_second : (a b : Bool) → (a && b) ≡ true → b ≡ true
 and_second true b e = e
 and_second false b e = cc
 
 -- ---- what is picked from a list
 
+-- an element that brings nothing adds nothing in front
 pub picks_none : {X Y : Type 0} (f : X → Option Y) (x : X) (xs : List X) → f x ≡ None → filter_map f (x ∷ xs) ≡ filter_map f xs
 picks_none f x xs none = rw none refl
 
+-- an element that brings something adds it in front
 pub picks_some : {X Y : Type 0} (f : X → Option Y) (x : X) (xs : List X) (y : Y) → f x ≡ Some y → filter_map f (x ∷ xs) ≡ y ∷ filter_map f xs
 picks_some f x xs y some = rw some refl
 
@@ -103,12 +110,15 @@ split {X = X} (x ∷ xs) ys (f ∷ front) e rest h = by (split xs ys front e res
 
 -- ---- what a list contains
 
+-- the first element is in its list
 pub in_first : {X : Type 0} (x : X) (xs : List X) → Contains (x ∷ xs) x
 in_first x xs = (zero, omega arith, refl)
 
+-- what is in the rest is in the list
 pub in_rest : {X : Type 0} (x : X) (xs : List X) (y : X) → Contains xs y → Contains (x ∷ xs) y
 in_rest x xs y has = (suc has.0, omega (arith, has.1), has.2)
 
+-- what is in a list is the first element or in the rest
 pub in_cases : {X : Type 0} (x : X) (xs : List X) (y : X) → Contains (x ∷ xs) y → (x ≡ y) ⊎ Contains xs y
 in_cases {X = X} x xs y has = by has.0 has.1 has.2
   where
@@ -116,6 +126,7 @@ in_cases {X = X} x xs y has = by has.0 has.1 has.2
     by zero less e = inl e
     by (suc k) less e = inr (k, omega (arith, less), e)
 
+-- nothing is in the empty list
 pub in_none : {X : Type 0} (y : X) → Contains [] y → ⊥
 in_none y has = omega (arith, has.1)
 

@@ -56,5 +56,6 @@ module _ (history : List Placed) (events : List Event) (kept : List (Option Repl
       among : Contains (told_to history kept p.who) counts
       among = picked_at (λ (e : Placed × Option Reply). cond (e.0.who == p.who) (told_void e.0.fate e.1) None) (zip history kept) k (p, Some (replies.Fault counts)) counts of_both tells
 
+-- a fault that a placement is told is its own, or, of a void one, its session's
 pub told_faults_are_owned : ToldFaultsAreOwned
 told_faults_are_owned history events kept waiting before now faults k p counts at told = by_fate history events kept waiting before now faults k p counts at told p.fate refl

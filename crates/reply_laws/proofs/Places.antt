@@ -22,6 +22,7 @@ use Rattle.reply_laws.proofs.Lists.{enumerate_next, flat_map_same, fold_same}
 abbrev pub Agree : MountFacts → Option ℕ → Option ℕ → ℕ → Type 0
 Agree m on off count = (k : ℕ) → k < count → is_on m on k ≡ is_on m off k
 
+-- a place from which files may go to the index partition agrees with itself
 pub agree_always : (m : MountFacts) (on : Option ℕ) (count : ℕ) → Agree m on on count
 agree_always m on count k less = refl
 
@@ -67,9 +68,11 @@ admits_by g on history k p fates.Void call f e = rw f refl
 admits_by g on history k p fates.Done None f e = rw (f, e) refl
 admits_by g on history k p fates.Done (Some call) f e = rw (f, e) refl
 
+-- what a placement admits is what its call asks for where it stands
 pub admits : (g : Given) (on : Option ℕ) (history : List Placed) (k : ℕ) (p : Placed) → admitted_at g on history k p ≡ ops_here g (is_on g.mounted on k) (standing g on history k) p.fate (call_at g.calls p) p.at
 admits g on history k p = admits_by g on history k p p.fate (call_at g.calls p) refl refl
 
+-- turning placement on at the end leaves what earlier places admit
 pub admits_alike : (g : Given) (on off : Option ℕ) (history : List Placed) (k : ℕ) (p : Placed) → k < length history → Agree g.mounted on off (length history)
     → admitted_at g on history k p ≡ admitted_at g off history k p
 admits_alike g on off history k p less agree =
@@ -91,6 +94,7 @@ admitted_alike g on off history agree =
     flat_map_same (λ e. admitted_at g on history e.0 e.1) (λ e. admitted_at g off history e.0 e.1) 0 history
     (λ k p less. admits_alike g on off history k p (omega (arith, less)) agree)
 
+-- with one more placement the admitted ops are those before and its own
 pub admitted_next : (g : Given) (on : Option ℕ) (history : List Placed) (p : Placed) → admitted g on (history ++ p ∷ []) ≡ admitted g on history ++ admitted_at g on history (length history) p
 admitted_next g on history p =
     ap (flat_map (λ e. admitted_at g on (history ++ p ∷ []) e.0 e.1)) (enumerate_next history p)
@@ -102,6 +106,7 @@ admitted_next g on history p =
 
 -- ---- the tree
 
+-- the tree at a place is the one that replaying the placements before it gives
 pub tree_is : (g : Given) (on : Option ℕ) (history : List Placed) (k : ℕ) → (standing g on history k).tree ≡ replay g.calls g.tree (take k history)
 tree_is g on history k = are_replays g on history k
 
@@ -114,6 +119,7 @@ behind g on history p =
     ∙ fold-append (λ st e. after_placed g (is_on g.mounted on e.0) st e.1) (first_standing g) (enumerate_from 0 history) ((length history, p) ∷ [])
     ∙ ap (λ ps. after_placed g (is_on g.mounted on (length history)) (fold (λ st e. after_placed g (is_on g.mounted on e.0) st e.1) (first_standing g) (enumerate_from 0 ps)) p) (sym (take_all (length history) history (omega arith)))
 
+-- what stands at each place stays as the history goes on by a placement
 pub standing_goes_on : (g : Given) (on : Option ℕ) (history : List Placed) (p : Placed) → StandingGoesOn g on history p
 standing_goes_on g on history p = record {
   stands = λ k within. stands_on g on history (history ++ p ∷ []) k (take-append-le k history (p ∷ []) within);
@@ -125,6 +131,7 @@ standing_goes_on g on history p = record {
   all_admitted = admitted_next g on history p;
 }
 
+-- what stands at each place stays as placement on the index partition goes on at the end
 pub placement_goes_on : (g : Given) (history : List Placed) → PlacementGoesOn g history
 placement_goes_on g history =
     let agree = agree_before g.mounted (length history) in

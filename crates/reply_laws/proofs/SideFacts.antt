@@ -24,6 +24,7 @@ use Rattle.reply_laws.proofs.Truths.{places_truly}
 reads_nothing : (at : Moment) → answer (with_a at) (Read path 0 5) ≡ answers.Got []
 reads_nothing at = simp (get_put) refl
 
+-- a read of an empty file may be answered with no bytes
 pub read_is : (m : MountFacts) (on : Bool) (at : Moment) → IsReadyHere (given at m []) on (first_standing (given at m [])) (Read path 0 5) at (replies.Answer (answers.Got []))
 read_is m on at = record { within = simp (get_put) refl; answered = sym (reads_nothing at) }
 
@@ -31,15 +32,19 @@ abbrev size_of : Answer → ℕ
 size_of (answers.Got bytes) = length bytes
 size_of _ = 0
 
+-- a read of an empty file can't be answered with a byte
 pub other_bytes_isnt : (m : MountFacts) (on : Bool) (at : Moment) → ¬ IsReadyHere (given at m []) on (first_standing (given at m [])) (Read path 0 5) at (replies.Answer (answers.Got (codes "d")))
 other_bytes_isnt m on at r = omega (arith, ap size_of (r.answered ∙ reads_nothing at))
 
+-- a read that was only now placed can't be answered with a fault
 pub fault_isnt : (m : MountFacts) (on : Bool) (at : Moment) (counts : Twin) → ¬ IsReadyHere (given at m []) on (first_standing (given at m [])) (Read path 0 5) at (replies.Fault counts)
 fault_isnt m on at counts r = r
 
+-- a sync with nothing to write can't be answered as full
 pub full_isnt : (m : MountFacts) (on : Bool) (at : Moment) → ¬ IsReadyHere (given at m []) on (first_standing (given at m [])) Sync at (replies.Full 0 0)
 full_isnt m on at r = true≢false (sym r.over)
 
+-- a sync with nothing to write may be answered at once
 pub synced_is : (m : MountFacts) (on : Bool) (at : Moment) → IsReadyHere (given at m []) on (first_standing (given at m [])) Sync at (replies.Answer answers.Synced)
 synced_is m on at = record { within = refl; answered = refl }
 
@@ -60,5 +65,6 @@ sync_stays_true mounted at = record {
 none_begun : (mounted : Mounted) (at : Moment) → IsTrue silent (one_sync mounted at)
 none_begun mounted at = record { replies = record { count = refl; each = λ k p reply e. cc }; ops = refl; standing = refl }
 
+-- a volume with one sync that was answered at once is true
 pub it_is_true : (mounted : Mounted) (at : Moment) → IsTrue silent (synced mounted at)
 it_is_true mounted at = places_truly silent (one_sync mounted at) (synced mounted at) 1 0 fates.Done (Some (replies.Answer answers.Synced)) (none_begun mounted at) refl refl refl refl refl (sync_stays_true mounted at)

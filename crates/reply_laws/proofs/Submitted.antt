@@ -47,6 +47,7 @@ of_fate : (fate : Fate) (here : ℕ) (before : List Event) (call : Option Call) 
 of_fate fates.Done here before call added is = of_done here before call added is
 of_fate fates.Void here before call added is = nothing added is
 
+-- a submission does no op
 pub submissions_do_none : (who here : ℕ) (before : List Event) (call : Option Call) (answer : Submitted) (added : List Event) → AreOfSubmit who here before call answer added → list_any does_op added ≡ false
 submissions_do_none who here before call (submitted.Ready reply) added is = of_fate (fate_for reply) here before call added is
 submissions_do_none who here before call (submitted.Wait ticket) added is = of_done here before call added is.1

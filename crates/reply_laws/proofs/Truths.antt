@@ -59,6 +59,7 @@ agree_by m old added None is k less =
     ∙ agree_once m (length old.history) (list_any (does_dp_flush (waiting_op (after_all old.events))) added) k less
     ∙ ap (λ x. is_on m x k) (sym is)
 
+-- where placement turns on in a turn, it agrees with before over the whole history
 pub agree_after : {D : Type 0} (m : MountFacts) (old : View D) (added : List Event) → Agree m (on_after old added) old.on (length old.history)
 agree_after m old added = agree_by m old added old.on refl
 
@@ -141,6 +142,7 @@ drains_truly first old new added is fixed on history kept is_events none queues 
     (record { count = refl; stays = λ k reply e. e; came = λ k p reply at e f. absurd (none_came old.replies k reply e f) }) queues
     (is.standing ∙ ap (λ n. drop n (admitted (given old first) old.on old.history)) (sym (done_same old.events (old.events ++ added) added refl none))))
 
+-- a submission that tells the truth leaves the volume true
 pub of_answer : {D : Type 0} (first now : Drive) (old new : View D) (who nth : ℕ) (answer : Submitted) → IsTrue first old → Submits first now old new who nth answer → SubmitsTruly first old new who nth answer → IsTrue first new
 of_answer first now old new who nth (submitted.Ready reply) is s side =
     places_truly first old new who nth (fate_for reply) (Some reply) is s.fixed s.on s.placing.replies
@@ -152,6 +154,7 @@ of_answer first now old new who nth submitted.Drain is s side =
     drains_truly first old new s.added is s.fixed s.on s.placing.history s.placing.replies s.adds.events
     (submissions_do_none who (length old.history) old.events (call_of old who nth) submitted.Drain s.added s.of_it) (ap (filter_map queued) s.of_it) side
 
+-- each submission of a volume leaves it true
 pub submissions_stay_true : {D : Type 0} (seen : D → Drive) → SubmissionsStayTrue seen
 submissions_stay_true seen first now old new who nth answer is s side = of_answer (seen first) (seen now) old new who nth answer is s side
 
@@ -186,11 +189,13 @@ step_truly first old new made rest is fixed history is_events on shape none queu
     (filter_map-append queued made rest ∙ ap (λ ps. ps ++ filter_map queued rest) (steps_queue_none made shape) ∙ queues)
     (step_left old.events made rest side.added new.events old.ops new.ops (admitted (given old first) old.on old.history) is_events side.events shape none trail is.standing side.ops))
 
+-- a turn whose steps are true leaves the volume true
 pub turn_truly : {D : Type 0} (most : ℕ) (first before now : Drive) (old new : View D) (who ticket : ℕ) (answer : Turn) → IsTrue first old → Turns most before now old new who ticket answer → IsTrail new.events
     → StepsTruly first old new → IsTrue first new
 turn_truly most first before now old new who ticket answer is t trail side =
     step_truly first old new t.added [] is t.fixed t.history (t.adds.events ∙ ap (λ es. old.events ++ es) (sym (append-nil t.added))) t.step.on t.step.shape refl refl trail t.replies side
 
+-- each turn of a session that waits leaves the volume true
 pub turns_stay_true : {D : Type 0} (seen : D → Drive) → TurnsStayTrue seen
 turns_stay_true seen most first before now old new who ticket answer is t trail side = turn_truly most (seen first) (seen before) (seen now) old new who ticket answer is t trail side
 
@@ -227,6 +232,7 @@ voids_truly first old new who counts made rest is fixed is_events on shape none 
     owned : Contains (owned_by (of_session p.who) (old.events ++ (made ++ rest))) counts
     owned = subst (λ w. Contains (owned_by (of_session w) (old.events ++ (made ++ rest))) counts) (sym pl.who_is) (subst (λ es. Contains (owned_by (of_session who) es) counts) is_events side.owned)
 
+-- a turn of a drain that tells the truth leaves the volume true
 pub of_drained : {D : Type 0} (most : ℕ) (first before now : Drive) (old new : View D) (who : ℕ) (answer : Drained) → IsTrue first old → DrainsOnce most before now old new who answer → IsTrail new.events
     → DrainsTruly first old new who answer → IsTrue first new
 of_drained most first before now old new who (drained.Fault counts) is d trail side =
@@ -236,11 +242,13 @@ of_drained most first before now old new who drained.Room is d trail side =
 of_drained most first before now old new who drained.More is d trail side =
     step_truly first old new d.made [] is d.fixed d.answered.3.history d.adds.events d.step.on d.step.shape refl refl trail d.answered.3.replies side
 
+-- each turn of a session that drains leaves the volume true
 pub drain_turns_stay_true : {D : Type 0} (seen : D → Drive) → DrainTurnsStayTrue seen
 drain_turns_stay_true seen most first before now old new who answer is d trail side = of_drained most (seen first) (seen before) (seen now) old new who answer is d trail side
 
 -- ---- placement that a flush turns on
 
+-- a step that turns placement on leaves replies and ops as true as they were
 pub flushes_turn_placement_on : {D : Type 0} (seen : D → Drive) → FlushesTurnPlacementOn seen
 flushes_turn_placement_on seen first old added is =
     whole (seen first) old (record old { on = on_after old added }) (on_after old added) old.history (old.events ++ []) old.replies old.ops refl refl refl (sym (append-nil old.events)) refl refl

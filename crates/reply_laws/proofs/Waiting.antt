@@ -102,6 +102,7 @@ submitted_within first now old new who nth submitted.Drain is s side = record {
   waits = moved first old new old.on old.history old.replies s.fixed s.on s.placing.history s.placing.replies is.waits;
 }
 
+-- after a submission each reply that is still to come can come
 pub submissions_keep_true : {D : Type 0} (seen : D → Drive) → SubmissionsKeepTrue seen
 submissions_keep_true seen first now old new who nth answered is s side = submitted_within (seen first) (seen now) old new who nth answered is s side
 
@@ -144,6 +145,7 @@ step_within first old new made is fixed on history keeps =
     moved first old new (on_after old made) old.history new.replies fixed on history refl
     (within_still (given old first) (on_after old made) old.on old.history old.replies new.replies (agree_after (given old first).mounted old made) is.waits (no_reply_goes old new keeps))
 
+-- after a turn of a session that waits each reply that is still to come can come
 pub turns_keep_true : {D : Type 0} (seen : D → Drive) → TurnsKeepTrue seen
 turns_keep_true seen most first before now old new who ticket turned is t trail side = record {
   truth = turn_truly most (seen first) (seen before) (seen now) old new who ticket turned is.truth t trail (steps_by (seen first) old new is side);
@@ -166,6 +168,7 @@ drained_within most first before now old new who drained.More is d trail side = 
   waits = step_within first old new d.made is d.fixed d.step.on d.answered.3.history d.answered.3.replies;
 }
 
+-- after a turn of a session that drains each reply that is still to come can come
 pub drain_turns_keep_true : {D : Type 0} (seen : D → Drive) → DrainTurnsKeepTrue seen
 drain_turns_keep_true seen most first before now old new who ended is d trail side = drained_within most (seen first) (seen before) (seen now) old new who ended is d trail side
 
@@ -174,6 +177,7 @@ drain_turns_keep_true seen most first before now old new who ended is d trail si
 nothing_waits : (history : List Placed) (k : ℕ) (p : Placed) → history ≡ [] → slice_get history k ≡ Some p → ⊥
 nothing_waits history k p none at = omega (arith, get_within history k p at, ap length none)
 
+-- a volume that stays true is true, and one that begins stays so
 pub staying_gives : {D : Type 0} (seen : D → Drive) → StayingGives seen
 staying_gives seen = record {
   gives = λ first v is. is.truth;

@@ -20,6 +20,7 @@ use Rattle.order_laws.specs.Kept.{seen}
 abbrev pub ReadsAs : Mounted → Tree → Cartridge → Type 0
 ReadsAs mounted tree c = Reads c (carried mounted.index) tree mounted.newest
 
+-- a cartridge that mounts so and reads as this tree
 abbrev pub IsFound : Mounted → Tree → Cartridge → Type 0
 IsFound mounted tree c = ReadsAs mounted tree c × Mounts c mounted
 
@@ -49,12 +50,14 @@ module _ {D : Type 0} (drive : Ghosts D) (most : ℕ) (start first : D) (looked 
     same_mounted other read can =
         mounted_once can.held other mounted can.reads_as.1 (found can.held (looked.held ∙ can.told)).0
 
+    -- the tree as which the drive's cartridge reads is the one that the volume began with
     pub same_read : (other : Mounted) (read : Tree)
         → CanTell (IsFound other read) (drive.commands start) (seen drive start) → read ≡ tree
     same_read other read can =
         same_tree can.held (carried other.index) (carried mounted.index) read tree other.newest mounted.newest
         can.reads_as.0 (found can.held (looked.held ∙ can.told)).1
 
+    -- what a drive told as the run began it tells as the volume begins
     pub told_read : (other : Mounted) (read : Tree)
         → CanTell (IsFound other read) (drive.commands start) (seen drive start)
         → CanTell (ReadsAs mounted tree) since (seen drive first)
@@ -69,12 +72,14 @@ module _ {D : Type 0} (drive : Ghosts D) (most : ℕ) (start first : D) (looked 
         same_facts can.held facts (carried mounted.index) stood tree generation mounted.newest can.reads_as.0.reads
         (found can.held (looked.held ∙ can.told)).1
 
+    -- the tree for which the drive's cartridge stands is the one that the volume began with
     pub same_stood : (facts : Carried) (stood : Tree) (generation : ℕ)
         → CanTell (StandsSound facts stood generation) (drive.commands start) (seen drive start) → stood ≡ tree
     same_stood facts stood generation can =
         same_tree can.held facts (carried mounted.index) stood tree generation mounted.newest can.reads_as.0.reads
         (found can.held (looked.held ∙ can.told)).1
 
+    -- what a drive's cartridge stood for as the run began it stands for as the volume begins
     pub told_stood : (facts : Carried) (stood : Tree) (generation : ℕ)
         → CanTell (StandsSound facts stood generation) (drive.commands start) (seen drive start)
         → CanTell (StandsSound (carried mounted.index) tree mounted.newest) since (seen drive first)

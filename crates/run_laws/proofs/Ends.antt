@@ -9,6 +9,7 @@ use Rattle.serving_promise.specs.Crash.{IsSound, Meaning}
 use Rattle.serving_promise.specs.Ends.{IsDoneClose}
 use Rattle.serving_promise.specs.Served.{Drive}
 
+-- a close that is done says the same of the drive as the run began
 pub done_since : (m : Meaning) (first start now : Drive) (mounted : Mounted) (before tree : Tree)
     (newest generation : ℕ) → first.held ≡ start.held → IsDoneClose m first now mounted before tree newest generation
     → IsDoneClose m start now mounted before tree newest generation

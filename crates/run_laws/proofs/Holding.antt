@@ -64,6 +64,7 @@ module _ (script : List ScriptLine) (log : Log) (facts : Carried) (tree : Tree) 
       survives.acknowledged ack (All-contains_itself log.acks k' d' within') g.0 image g.1) in
       all k d within (filter_passes passes log.acks k d within)
 
+  -- each image since a number of commands holds what was acknowledged by then
   pub holds_then : (count : ℕ) → start ≤ count → count < 2 ^ 64 - 1 → (image : Cartridge) → leavings.since count image
       → HoldsAcked facts script tree log (acked_by count log.acks) image
   holds_then count began less image left = holds image (lower start count image began left) (acked_by count log.acks)

@@ -57,6 +57,7 @@ can_tell facts tree generation v ready = record {
   sure = λ image left. ready.sure image (since_gave v.commands v.held v.acts v.commands image left);
 }
 
+-- a run in memory survives crashes where each image that its drive gave was left by it
 pub run_survives : (now : View)
     → ((t : ℕ) (image : Cartridge) → GaveSince now.held now.acts t image
     → LeftSince now.commands now.held now.acts t image)
@@ -75,6 +76,7 @@ no_entry : (newer older : List DoneCommand) (e : DoneCommand) → [] ≡ newer +
 no_entry [] older e is = cc
 no_entry (n ∷ newer) older e is = cc
 
+-- a drive that has had no command is ready where its cartridge stands for a tree and is sound
 pub new_ready : NewDrivesAreReady
 new_ready held limits fails facts tree generation stands sound = record {
   stands = stands;

@@ -45,15 +45,19 @@ faults_told history events replies kept before now earlier later none from to ar
 
 module _ {D : Type 0} (drive : Ghosts D) (script : List ScriptLine) (at : Option Moment) (start : D) (v : View D)
     (log : Log) (played : IsPlayed drive script at start v) (log_is : IsLogOf v log) where
+  -- the log has the volume's history
   pub history_is : v.history ≡ log.history
   history_is = sym log_is.history
 
+  -- the log has the volume's events
   pub events_are : v.events ≡ log.events
   events_are = sym log_is.events
 
+  -- the log has the volume's replies, all of which are there
   pub replies_are : v.replies ≡ map Some log.replies
   replies_are = sym log_is.replies
 
+  -- the log is of the volume's script
   pub script_is : v.fixed.script ≡ script
   script_is = played.script_is
 

@@ -70,6 +70,7 @@ module _ (sessions : ℕ) (history : List Placed) (replies : List (Option Reply)
           absurd (let no : idle ≡ draining = sym (all_idle who) ∙ are.drained who (inr (omega (arith, ap length e))) in
           cc)
 
+  -- where all replies are there, nothing waits
   pub at_rest : (there : List Reply) → map Some there ≡ replies → AreWaiting st replies → is_at_rest st ≡ true
   at_rest there are_there waiting =
       let calm = no_waiter st.requests st.syncs

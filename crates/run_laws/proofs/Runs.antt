@@ -52,14 +52,17 @@ module _ {D : Type 0} (drive : Ghosts D) (script : List ScriptLine) (at : Option
 
   module _ (mounted : Mounted) (tree : Tree)
       (can : CanTell (IsFound mounted tree) (drive.commands start) (seen drive start)) where
+    -- the volume was served from this mount
     pub mounted_is : v.fixed.mounted ≡ mounted
     mounted_is = sym (same_mounted drive played.most start v.fixed.first played.looked v.fixed.since played.since
         v.fixed.mounted v.fixed.tree played.mounted mounted tree can)
 
+    -- the volume was served with this tree
     pub tree_is : v.fixed.tree ≡ tree
     tree_is = sym (same_read drive played.most start v.fixed.first played.looked v.fixed.since played.since
         v.fixed.mounted v.fixed.tree played.mounted mounted tree can)
 
+    -- as the volume began its drive told a cartridge that read as its tree
     pub told : CanTell (ReadsAs v.fixed.mounted v.fixed.tree) v.fixed.since (seen drive v.fixed.first)
     told = told_read drive played.most start v.fixed.first played.looked v.fixed.since played.since
         v.fixed.mounted v.fixed.tree played.mounted mounted tree can
@@ -76,6 +79,7 @@ module _ {D : Type 0} (drive : Ghosts D) (script : List ScriptLine) (at : Option
     truth : IsTrue (seen drive v.fixed.first) v
     truth = played.served.truly told
 
+    -- the history and its events asked rightly of what stood at the start
     pub rightly : IsAskedRightly (given_of script tree mounted (seen drive start)) v.on log.history log.events
     rightly = subst (λ (e : Given × List Placed × List Event). IsAskedRightly e.0 v.on e.1 e.2)
         (λ i. (given_is i, history i, events i)) (played.logged.truly told)
@@ -243,6 +247,7 @@ module _ {D : Type 0} (drive : Ghosts D) (script : List ScriptLine) (at : Option
   }
   ends_so ends.NoMemory e = tt
 
+-- a volume that was played and closed gives the log of a run
 pub plays_are_runs : {D : Type 0} (drive : Ghosts D) → PlaysAreRuns drive
 plays_are_runs drive script at start v now log outcome step_count travel_sum nodes played closes = record {
   run = run drive script at start v now log outcome step_count travel_sum nodes played closes;

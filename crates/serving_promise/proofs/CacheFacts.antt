@@ -7,6 +7,7 @@ use Rattle.block_cache.specs.Kept.{Kept}
 use Rattle.block_cache.specs.Worked.{hello, one}
 use Rattle.serving_promise.specs.Cached.{IsCache, was_read}
 
+-- a block that no event read is not rightly kept
 pub never_read_isnt : ¬ IsCache one_sync (hello ∷ one 3 ∷ [])
 never_read_isnt c = absurd (true≢false (sym (c.read 1 hello (omega arith))))
 
@@ -15,6 +16,7 @@ one_read : All (λ (block : Kept). list_any (was_read block.0) one_sync ≡ true
 one_read zero d less = refl
 one_read (suc k) d less = absurd (omega (arith, less))
 
+-- a block that the run read is rightly kept
 pub one_is : IsCache one_sync (hello ∷ [])
 unfolding IsDistinct
 one_is = record { read = one_read; kept = record { once = (tt, tt); few = omega arith } }

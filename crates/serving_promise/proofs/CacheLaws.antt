@@ -55,6 +55,7 @@ refused_asks st before added old new path offset count passed asks = subst (λ (
     is : Asks st before added old new (Some (Read path offset count)) ≡ LeavesBlocks added old new
     is = rw passed refl
 
+-- a read that the tree refuses asks for no block
 pub asks_refused : (st : Standing) (before added : List Event) (old new : List Kept) (path : List (List ℕ)) (offset count : ℕ)
     → passes (refusal_of st.tree (Read path offset count)) ≡ false → LeavesBlocks added old new
     → Asks st before added old new (Some (Read path offset count))
@@ -122,6 +123,7 @@ same_after trail e old new c is = subst (IsCache (trail ++ e ∷ [])) (sym is) (
 
 -- ---- what stays true
 
+-- with no event yet and no block, the cache is right
 pub none_yet : IsCache [] []
 none_yet = record { read = λ k d low. absurd (omega (arith, low)); kept = caches_stay.begins }
 
@@ -142,6 +144,7 @@ step_stays told trail (Drains who) old new c is = same_after trail (Drains who) 
 step_stays told trail (Rests who) old new c is = same_after trail (Rests who) old new c is
 step_stays told trail (Worked place fault) old new c is = same_after trail (Worked place fault) old new c is
 
+-- steps of the head leave the blocks that are kept right
 pub steps_stay : (told : Option Cartridge) (trail added : List Event) (old new : List Kept) → IsCache trail old
     → KeepsBlocks told added old new → IsCache (trail ++ added) new
 steps_stay told trail [] old new c is = subst (λ (es : List Event). IsCache es new) (sym (append-nil trail)) (subst (IsCache trail) (sym is) c)
@@ -149,6 +152,7 @@ steps_stay told trail (e ∷ added) old new c (mid, one, rest) =
     subst (λ (es : List Event). IsCache es new) (append_assoc trail (e ∷ []) added)
     (steps_stay told (trail ++ e ∷ []) added mid new (step_stays told trail e old mid c one) rest)
 
+-- reads of blocks leave the blocks that are kept right
 pub read_stays : (trail added : List Event) (blocks : List Place) (old new : List Kept) → IsCache trail old
     → ReadsBlocks blocks trail added old new → IsCache (trail ++ added) new
 read_stays trail added blocks old new c r = rw r.uses (record {
@@ -193,11 +197,13 @@ step_on_tape c (Drains who) old new on is = rw is on
 step_on_tape c (Rests who) old new on is = rw is on
 step_on_tape c (Worked place fault) old new on is = rw is on
 
+-- steps of the head leave the blocks that are kept as they stand on tape
 pub steps_on_tape : (c : Cartridge) (added : List Event) (old new : List Kept) → AreOnTape c old → KeepsBlocks (Some c) added old new
     → AreOnTape c new
 steps_on_tape c [] old new on is = rw is on
 steps_on_tape c (e ∷ added) old new on (mid, one, rest) = steps_on_tape c added mid new (step_on_tape c e old mid on one) rest
 
+-- reads of blocks leave the blocks that are kept as they stand on tape
 pub read_on_tape : (c : Cartridge) (trail added : List Event) (blocks : List Place) (old new : List Kept) → AreOnTape c old
     → ReadsBlocks blocks trail added old new → AreOnTape c new
 read_on_tape c trail added blocks old new on r =

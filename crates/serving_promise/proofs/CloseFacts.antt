@@ -64,6 +64,7 @@ unsound_isnt at d = omega (arith, (d.sound (record { one_index = tt; honest = om
 pub nodes_are : TellsNodes (ends.Done 1) (numbered 4) 0
 nodes_are = sym (len-empty _ _)
 
+-- a close that tells another count of nodes is none
 pub other_nodes_isnt : ¬ TellsNodes (ends.Done 1) (numbered 4) 1
 other_nodes_isnt e = omega (arith, e, nodes_are)
 
@@ -71,6 +72,7 @@ other_nodes_isnt e = omega (arith, e, nodes_are)
 pub starts_is : (at : Moment) → Starts by_reference (telling 2) (mounted at) 30 [] 0 (Some at) (Some at) (just_begun at 30)
 starts_is at = record { tree = with_a at []; reads_as = refl; begins = refl }
 
+-- a volume that has a next moment didn't begin with none
 pub other_moment_isnt : (at : Moment) → ¬ Starts by_reference (telling 2) (mounted at) 30 [] 0 None (Some at) (just_begun at 30)
 other_moment_isnt at s = no_moment (ap (λ v. v.next) s.begins)
   where

@@ -25,6 +25,7 @@ only x y at = by at.0 at.1 at.2
     by zero less e = e
     by (suc k) less e = absurd (omega (arith, less))
 
+-- a sync acknowledged at its flush's command survives crashes since then
 pub acknowledged_is : SurvivesCrashes by_reference plain_facts numbered 4 (ack 2 34 ∷ []) flushed_at_34 30
 acknowledged_is = record {
   always = always;
@@ -32,6 +33,7 @@ acknowledged_is = record {
   acknowledged = λ a has low. subst (λ (b : Ack). (image : Cartridge) → flushed_at_34.since b.command image → StandsWithin by_reference plain_facts numbered b.place 4 image) (only (ack 2 34) a has) since_34;
 }
 
+-- a sync acknowledged one command too early doesn't survive crashes since then
 pub acknowledged_early_isnt : ¬ SurvivesCrashes by_reference plain_facts numbered 4 (ack 2 33 ∷ []) flushed_at_34 30
 acknowledged_early_isnt s =
     let w = s.acknowledged (ack 2 33) (0, omega arith, refl) (omega arith) (cartridge 0) (inr (omega arith, refl)) in

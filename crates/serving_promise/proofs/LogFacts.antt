@@ -21,12 +21,15 @@ use Rattle.plain_tree.specs.declared.calls.Call.TheVariants.{Sync}
 use Rattle.plain_tree.specs.declared.calls.Fate.TheVariants as fates
 use Rattle.serving_promise.specs.declared.answers.Submitted.TheVariants as submitted
 
+-- the one sync of a run is acknowledged at its flush's command
 pub acks_are : AreAcks one_sync (map Some sync_replies) (ack 2 34 ∷ [])
 acks_are = record { places = refl; events = refl; rising = λ i j d less within. omega arith }
 
+-- an acknowledgement of another place is wrong
 pub ack_of_another_isnt : ¬ AreAcks one_sync (map Some sync_replies) (ack 3 34 ∷ [])
 ack_of_another_isnt a = omega (arith, ap (λ xs. get_or xs 0 0) a.places)
 
+-- a sync that was answered and has no acknowledgement is wrong
 pub ack_missing_isnt : ¬ AreAcks one_sync (map Some sync_replies) []
 ack_missing_isnt a = omega (arith, ap length a.places)
 
@@ -34,6 +37,7 @@ ack_missing_isnt a = omega (arith, ap length a.places)
 pub ack_added : acks_for 34 (Worked (dp 11) None ∷ Synced 2 ∷ []) ≡ ack 2 34 ∷ []
 ack_added = refl
 
+-- an acknowledgement isn't told at the command before
 pub ack_early_isnt : acks_for 34 (Worked (dp 11) None ∷ Synced 2 ∷ []) ≢ ack 2 33 ∷ []
 ack_early_isnt e = omega (arith, ap (λ xs. get_or (map (λ a. a.command) xs) 0 0) e)
 
@@ -41,24 +45,31 @@ ack_early_isnt e = omega (arith, ap (λ xs. get_or (map (λ a. a.command) xs) 0 
 pub told_of_fault : (at : Moment) → told_at (four_done at) (map Some fault_replies) 2 ≡ owned_by (of_call 2) failed_write
 told_of_fault at = refl
 
+-- replies that tell a fault to another call don't tell it to its owner
 pub told_another : (at : Moment) → told_at (four_done at) (map Some fault_of_another) 2 ≢ owned_by (of_call 2) failed_write
 told_another at e = omega (arith, ap length e)
 
+-- one fault is one rise of the count
 pub rises : AreRises 0 1 (twin 0 1 ∷ [])
 rises = (omega arith, omega arith, omega arith)
 
+-- one fault told twice isn't a rise of two
 pub rises_twice_isnt : ¬ AreRises 0 2 (twin 0 1 ∷ twin 0 1 ∷ [])
 rises_twice_isnt r = omega (arith, r.2.0)
 
+-- a session whose sync was answered is idle
 pub phases : phase 1 sync_marks ≡ idle
 phases = refl
 
+-- the places of a session's marks are those of its placements in the history
 pub marks_of_history : (at : Moment) → places_of 1 sync_marks ≡ placed_by 1 (four_done at)
 marks_of_history at = refl
 
+-- a session that drained and then got its place is idle
 pub drains_then_places : phase 1 drain_marks ≡ idle
 drains_then_places = refl
 
+-- a session whose ticket wasn't answered still waits
 pub waits_still : phase 2 drain_marks ≡ waits 0
 waits_still = refl
 
@@ -66,9 +77,11 @@ waits_still = refl
 pub mark_missing_isnt : marks_of_submit 1 0 (submitted.Ready done) ≢ mark 1 (places 0) ∷ []
 mark_missing_isnt e = omega (arith, ap length e)
 
+-- the text at the end tells how the close ended, the steps and the travel
 pub text_is : (at : Moment) → end_text (log_of at one_sync) (Closed 2) ≡ codes "closed " ++ (decimal 2 ++ (codes " " ++ (decimal 6 ++ (codes " " ++ (decimal 11 ++ codes "\n")))))
 text_is at = refl
 
+-- with two sessions five ops were queued before the flush
 pub before_the_flush : queued_before_flush two_sessions ≡ 5
 before_the_flush = refl
 
@@ -96,6 +109,7 @@ calls_told at (suc (suc zero)) = refl
 calls_told at (suc (suc (suc zero))) = refl
 calls_told at (suc (suc (suc (suc k)))) = rw (differ (suc (suc (suc (suc k)))) 2 (omega arith)) refl
 
+-- each call is told just the faults that it owns
 pub told_as_owned : (at : Moment) (k : ℕ) → told_at (four_done at) (map Some fault_replies) k ≡ owned_by (of_call k) failed_write
 told_as_owned at k = calls_told at k
 

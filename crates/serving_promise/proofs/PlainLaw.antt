@@ -41,6 +41,7 @@ length_some : {X : Type 0} (xs : List X) → length (map Some xs) ≡ length xs
 length_some [] = refl
 length_some (x ∷ xs) = ap suc (length_some xs)
 
+-- with no step failed and nothing over its limit, the replies are those of a plain run
 pub replies_are_plain : (g : Given) (on : Option ℕ) (history : List Placed) (answered : List Reply) → IsNeverOver g on history → AreReplies g on history [] (map Some answered) → sessions.AreReplies g.calls (sessions.IsPlainReply g.calls g.tree) history answered
 replies_are_plain g on history answered never r = record {
   count = sym (length_some answered) ∙ r.count;
@@ -54,6 +55,7 @@ back [] k x e = cc
 back (y ∷ ys) zero x e = cc
 back (y ∷ ys) (suc k) x e = back ys k x e
 
+-- with no step failed and nothing over its limit, the replies of a plain run may come
 pub plain_replies_are : (g : Given) (on : Option ℕ) (history : List Placed) (answered : List Reply) → IsNeverOver g on history → sessions.AreReplies g.calls (sessions.IsPlainReply g.calls g.tree) history answered → AreReplies g on history [] (map Some answered)
 plain_replies_are g on history answered never r = record {
   count = length_some answered ∙ r.count;

@@ -27,6 +27,7 @@ get_put = fin.get-insert path_total
 pub reads_hello : (at : Moment) → answer (with_a at (codes "hello")) read ≡ answers.Got (codes "hello")
 reads_hello at = simp (get_put) refl
 
+-- a read of a file with bytes answers these bytes
 pub read_is : (at : Moment) → IsReply fates.Done (calm (with_a at (codes "hello"))) read (got (codes "hello"))
 read_is at = record { within = refl; answered = inl (ap replies.Answer (sym (reads_hello at))) }
 
@@ -62,9 +63,11 @@ later_read_isnt at r = by r.answered
     by (inl e) = unlike_first (got (codes "world")) (got (codes "hello")) (λ n. omega (arith, n)) (e ∙ ap replies.Answer (reads_hello at))
     by (inr f) = unlike (got (codes "world")) (replies.Fault f.1.0) (λ n. omega (arith, n)) f.1.2
 
+-- a write over the limit is told its need and its limit
 pub full_is : (tree : Tree) → IsReply fates.Void (over tree 53 52) (write (codes "d")) (replies.Full 53 52)
 full_is tree = inr (inl (refl, refl))
 
+-- a write over the limit isn't told a need that is one too high
 pub full_one_off_isnt : (tree : Tree) → ¬ IsReply fates.Void (over tree 53 52) (write (codes "d")) (replies.Full 54 52)
 full_one_off_isnt tree (inl e) = unlike (replies.Full 54 52) replies.NoMemory (λ n. omega (arith, n)) e
 full_one_off_isnt tree (inr (inl f)) = unlike_first (replies.Full 54 52) (replies.Full 53 52) (λ n. omega (arith, n)) f.1
@@ -88,6 +91,7 @@ fault_is tree = record { within = refl; answered = inr (refl, (twin 0 1, (0, ome
 pub none_in : (counts : Twin) → ¬ Contains [] counts
 none_in counts at = omega (arith, at.1)
 
+-- a sync that owns no fault isn't told one
 pub fault_unowned_isnt : (tree : Tree) → ¬ IsReply fates.Done (calm tree) Sync (fault 0 1)
 fault_unowned_isnt tree r = by r.answered
   where
@@ -103,6 +107,7 @@ write_fault_isnt tree r = by r.answered
     by (inl e) = unlike (fault 0 1) (replies.Answer (answer tree (write (codes "d")))) (λ n. omega (arith, n)) e
     by (inr f) = true≢false (sym f.0)
 
+-- a write whose drain failed is told that fault
 pub drain_fault_is : (tree : Tree) → IsReply fates.Void (record (calm tree) { sessions = twin 0 1 ∷ [] }) (write (codes "d")) (fault 0 1)
 drain_fault_is tree = inr (inr (refl, (twin 0 1, (0, omega arith, refl), refl)))
 

@@ -62,5 +62,6 @@ crash m first fixed next can = record {
   acknowledged = λ ack has. absurd (omega (arith, has.1));
 }
 
+-- a volume of which nothing was asked yet is served rightly
 pub begins_served : {D : Type 0} (m : Meaning) (first : Drive) (fixed : Fixed D) (next : Option Moment) → IsServed m first first (begun fixed next)
 begins_served m first fixed next = record { orderly = orderly first fixed next; truly = λ can. truly first fixed next; cached = none_kept first.held; crash = λ can. crash m first fixed next can }

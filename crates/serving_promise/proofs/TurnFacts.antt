@@ -190,6 +190,7 @@ answer_alone : (standing : List Op) → synced_at 2 standing ≡ queues 8 4 → 
 answer_alone [] e = cc
 answer_alone (op ∷ later) e = cc
 
+-- a sync that begins before its ops are queued is none
 pub syncs_first_isnt : (at : Moment) → ¬ Submits (drive_at 0 None) (drive_at 30 None) (before_third at Sync) (placed_third at Sync syncs_first) 1 2 (submitted.Wait 2)
 syncs_first_isnt at s = answer_alone _ (begins_with_syncs s.of_it.1.0 _ (sym s.of_it.1.1 ∙ same_added at Sync syncs_first s.added s.adds.events))
 
@@ -201,6 +202,7 @@ no_sync_of_read : (places : List Place) → map (λ place. Wants 2 place) places
 no_sync_of_read [] e = cc
 no_sync_of_read (p ∷ places) e = cc
 
+-- a read that begins a sync is none
 pub read_syncs_isnt : (at : Moment) → ¬ Submits (drive_at 0 None) (drive_at 30 None) (before_third at read) (placed_third at read (Syncs 2 ∷ [])) 1 2 (submitted.Wait 2)
 read_syncs_isnt at s = no_sync_of_read s.of_it.1.0 (sym s.of_it.1.1 ∙ same_added at read (Syncs 2 ∷ []) s.added s.adds.events)
 

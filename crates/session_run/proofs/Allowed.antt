@@ -31,6 +31,7 @@ module _ {D : Type 0} (drive : Ghosts D) (most : ℕ) (start first : D) (looked 
     subst (λ (o : Option Cartridge). IfSome o (λ c. Reads c (carried mounted.index) tree mounted.newest)) told reads,
   )
 
+  -- an owner who allows a run of a drive allows it of the volume that is mounted
   pub may_start : ((c : Cartridge) → drive.held start ≡ Some c → Mounts c mounted) → MayServe drive script moment start
       → MayStart drive mounted first script moment since
   may_start mounts may tree reads c told = ⊎_elim

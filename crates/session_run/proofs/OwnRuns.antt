@@ -27,6 +27,7 @@ use Rattle.run_laws.specs.Laws.{IsPlayed}
 use Rattle.run_laws.proofs.Runs as runs
 use Rattle.session_run.specs.Serving.{HasOwnOnTop}
 
+-- the indexes that a run has put on the data partition are on top, as its log tells
 pub own_on_top : {D : Type 0} (drive : Ghosts D) (script : List ScriptLine) (at : Option Moment) (start : D) (v : View D)
     (now : D) (log : Log) (outcome : CloseEnd) (step_count travel_sum nodes : ℕ) → IsPlayed drive script at start v
     → Closes cartridges (seen drive v.fixed.first) (seen drive v.drive) (seen drive now) v now log outcome step_count

@@ -56,6 +56,7 @@ is_mount limits m sound =
 
 module _ {D : Type 0} (drive : Ghosts D) (start first : D) (mounted : Mounted) (script : List ScriptLine) (since : ℕ) (next moment : Option Moment) (v : View D)
     (starts : Starts cartridges (seen drive first) mounted first script since next moment v) where
+  -- a volume that is mounted from a drive which was only looked at is begun
   pub begun_on : IfSome (drive.held first) (λ c. Mounts c mounted) → IsLookedAt drive start first → since ≡ drive.commands start → IsBegun drive start v.fixed
   begun_on mounts looked since_is = subst (λ (w : View D). IsBegun drive start w.fixed) (sym starts.begins) record {
     looked = looked;
@@ -165,6 +166,7 @@ mount_ends (errors.BadExtent uid) held before now blamed counts = (refl, blamed)
 mount_ends (errors.Drive said) held before now blamed counts = counts
 mount_ends errors.NoMemory held before now blamed counts = tt
 
+-- a cartridge that isn't mounted is unserved
 pub unmounted : {D : Type 0} (drive : Ghosts D) (start now : D) (e : MountErr) (end : ServeEnd) → end ≡ mount_end e
     → ((c : Cartridge) → drive.held start ≡ Some c → Blames e c) → AreCounts (drive.faults start) (drive.faults now) e → IsLookedAt drive start now
     → IsLookedAt drive start now × IsUnserved (drive.held start) (drive.faults start) (drive.faults now) end

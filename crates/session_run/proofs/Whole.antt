@@ -152,6 +152,7 @@ module _ {D : Type 0} (lock : TableId) (n : ℕ) (fixed : Fixed D) (ps qs : List
 
 -- ---- a script without a session
 
+-- a volume without a session is served whole
 pub none_to_serve : {D : Type 0} (drive : Ghosts D) (v : View D) → LogsGoOn drive cartridges
     → v ≡ begun v.fixed v.next → IsServed cartridges (seen drive v.fixed.first) (seen drive v.drive) v
     → HasSessions v.fixed.script → greatest_session v.fixed.script ≡ 0 → IsServedWhole drive v

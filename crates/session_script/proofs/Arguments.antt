@@ -38,6 +38,7 @@ four_words verb a b c (d ∷ words) some =
     either_way (list_any is_empty (a ∷ b ∷ c ∷ d ∷ words)) (Err reasons.Words)
     ∙ ap (cond (list_any is_empty (a ∷ b ∷ c ∷ d ∷ words)) (Err reasons.Words)) (wrong a b c d words verb)
 
+-- a verb with more than three words behind it is refused for its words
 pub too_many : (verb : Verb) (words : List (List ℕ)) (a b c : List ℕ) (left : Bor (List ℕ)) → words ≡ a ∷ b ∷ c ∷ pieces_left 32 (Some left) → Err reasons.Words ≡ call_with verb words
 too_many verb words a b c left are =
     four_words verb a b c (slice_split (λ x. eqb x 32) left.now) (omega (arith, length-slice_split (λ x. eqb x 32) left.now))

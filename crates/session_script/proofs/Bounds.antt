@@ -17,6 +17,7 @@ use Rattle.session_script.specs.Sessions.{HasSessions}
 use Rattle.session_script.specs.Limits.{IsBounded}
 use Rattle.session_script.proofs.SessionLemmas.{length-calls_more, HasSessions-more}
 
+-- one where it is so, else none
 abbrev pub one_if : Bool → ℕ
 one_if b = cond b 1 0
 
@@ -32,6 +33,7 @@ not_some : {A : Type 0} (b : Bool) (x : A) (o : Option A) → cond b (Some x) o 
 not_some true x o e = cc
 not_some false x o e = (refl, e)
 
+-- a line that passes no limit is within the limits
 pub IsWithin-passed : (before : List ScriptLine) (line : ScriptLine) → limit_passed before line ≡ None → IsWithin before line
 IsWithin-passed before line e =
     let first = not_some _ reasons.Calls _ e in
@@ -48,12 +50,15 @@ IsWithin-passed before line e =
 sum_by-more : {X : Type 0} (f : X → ℕ) (xs : List X) (x : X) → sum_by f (xs ++ x ∷ []) ≡ sum_by f xs + f x
 sum_by-more f xs x = sum_by-append f xs (x ∷ []) ∙ omega arith
 
+-- the bytes that are written with one line more
 pub written-more : (before : List ScriptLine) (line : ScriptLine) → sum_by (λ l. bytes_written l.call) (before ++ line ∷ []) ≡ sum_by (λ l. bytes_written l.call) before + bytes_written line.call
 written-more before line = sum_by-more (λ (l : ScriptLine). bytes_written l.call) before line
 
+-- the bytes that are asked for with one line more
 pub asked-more : (before : List ScriptLine) (line : ScriptLine) → sum_by (λ l. bytes_asked l.call) (before ++ line ∷ []) ≡ sum_by (λ l. bytes_asked l.call) before + bytes_asked line.call
 asked-more before line = sum_by-more (λ (l : ScriptLine). bytes_asked l.call) before line
 
+-- a script within its bounds is so with one line more that passes no limit
 pub IsBounded-more : (before : List ScriptLine) (line : ScriptLine) → IsBounded before → 1 ≤ line.who → line.who ≤ most_sessions → limit_passed before line ≡ None → IsBounded (before ++ line ∷ [])
 IsBounded-more before line was low high passed =
     let within = IsWithin-passed before line passed in record {
@@ -134,6 +139,7 @@ spelled_session (word ∷ words) line e = at (session_of word) refl e
         let range = session_low word who is in
         (omega (arith, range.0, same), omega (arith, range.1, same))
 
+-- a line that is taken spells its call, and passes no limit
 pub line_spelled : (before : List ScriptLine) (line : List ℕ) (spelled : ScriptLine) → line_of before line ≡ Ok (Some spelled) → (spelled_by (words_of line) ≡ Ok spelled) × (limit_passed before spelled ≡ None)
 line_spelled before line spelled e = top (is_utf8 line) (is_skipped line) (spelled_by (words_of line)) e
   where
@@ -150,5 +156,6 @@ line_spelled before line spelled e = top (is_utf8 line) (is_skipped line) (spell
     top true true r h = cc
     top true false r h = within r h
 
+-- a line that is taken is of one of the 16 sessions
 pub line_session : (before : List ScriptLine) (line : List ℕ) (spelled : ScriptLine) → line_of before line ≡ Ok (Some spelled) → (1 ≤ spelled.who) × (spelled.who ≤ most_sessions)
 line_session before line spelled e = spelled_session (words_of line) spelled (line_spelled before line spelled e).0

@@ -92,6 +92,7 @@ fill_found (high ∷ low ∷ colon ∷ count) bytes e = outer (eqb colon 58) ref
 begins : (word front : List ℕ) → starts_with nat_eq word front ≡ true → word ≡ front ++ drop (length front) word
 begins word front h = (starts_is Decides-eqb word front (starts_with nat_eq word front) refl).0 h
 
+-- a word that is read as bytes spells them
 pub bytes_found : (word bytes : List ℕ) → bytes_of word ≡ Some bytes → SpellsBytes word bytes
 bytes_found word bytes e = first (starts_with nat_eq word (codes "hex:")) refl e
   where
@@ -114,6 +115,7 @@ bytes_found word bytes e = first (starts_with nat_eq word (codes "hex:")) refl e
     first true is h = inl (drop 4 word, begins word (codes "hex:") is, hex_found (drop 4 word) bytes h)
     first false is h = second (starts_with nat_eq word (codes "text:")) refl h
 
+-- a word that spells bytes is read as these
 pub bytes_only : (word bytes : List ℕ) → SpellsBytes word bytes → bytes_of word ≡ Some bytes
 bytes_only word bytes h = ⊎_elim
     (λ (hex : IsHexWord word bytes). ap bytes_of hex.1 ∙ hex_only hex.0 bytes hex.2)
@@ -125,6 +127,7 @@ bytes_only word bytes h = ⊎_elim
     others)
     h
 
+-- a word that spells bytes is not empty
 pub bytes_some : (word bytes : List ℕ) → SpellsBytes word bytes → 1 ≤ length word
 bytes_some word bytes h = ⊎_elim
     (λ (hex : IsHexWord word bytes). rw hex.1 (omega arith))

@@ -25,6 +25,7 @@ test word text v verb o named later e = at (bytes_eq word text) refl e
     at true is h = let same : v ≡ verb = cc in (bytes_eq-Decides word text).0 is ∙ sym named ∙ ap verb_text same
     at false is h = later h
 
+-- a word that is read as a verb is that verb's
 pub verb_found : (word : List ℕ) (verb : Verb) → verb_of word ≡ Some verb → word ≡ verb_text verb
 verb_found word verb e =
     test word (codes "mkdir") verbs.Mkdir verb _ refl (
@@ -137,6 +138,7 @@ call_by_found verbs.Rename words call e = rename_found call words e
 call_by_found verbs.Remove words call e = remove_found call words e
 call_by_found verbs.Sync words call e = sync_found call words e
 
+-- words that are read as a call spell it
 pub call_found : (words : List (List ℕ)) (call : Call) → call_of words ≡ Ok call → SpellsCall words call
 call_found [] call e = cc
 call_found (word ∷ words) call e =
@@ -148,6 +150,7 @@ call_found (word ∷ words) call e =
     full true v h = cc
     full false v h = h
 
+-- a word that spells a path is not empty
 pub path_some : (word : List ℕ) (path : List (List ℕ)) → SpellsPath word path → 1 ≤ length word
 path_some word [] h = rw h (omega arith)
 path_some word (name ∷ names) h = rw h.2 (omega arith)
@@ -166,6 +169,7 @@ one_read : (verb : Verb) (make : List (List ℕ) → Call) (p : List ℕ) (path 
 one_read verb make p path h shape =
     ap (λ b. cond b (Err reasons.Words) (call_by verb (p ∷ []))) (one_full p (path_some p path h)) ∙ shape p ∙ ap (λ o. read_as o reasons.Path (λ s. Ok (make s))) (path_only p path h)
 
+-- words that spell a call are read as that call
 pub call_only : (words : List (List ℕ)) (call : Call) → SpellsCall words call → call_of words ≡ Ok call
 call_only words (Mkdir path) h = ap call_of h.1 ∙ one_read verbs.Mkdir Mkdir h.0 path h.2 (λ w. refl)
 call_only words (Create path) h = ap call_of h.1 ∙ one_read verbs.Create Create h.0 path h.2 (λ w. refl)

@@ -30,6 +30,7 @@ same_bytes : (text : List ℕ) → flat_map (encode_byte ESCAPED) text ≡ flat_
 same_bytes [] = refl
 same_bytes (b ∷ text) = ap (λ x. x ++ flat_map (encode_byte ESCAPED) text) (same_byte b) ∙ ap (λ x. escaped_byte b ++ x) (same_bytes text)
 
+-- the encoder's escapes of a text are those of the definition
 pub same_escapes : (text : List ℕ) → percent_encode ESCAPED text ≡ escaped text
 unfolding percent_encode escaped
 same_escapes text = same_bytes text

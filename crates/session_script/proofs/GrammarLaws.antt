@@ -34,9 +34,11 @@ calls_of-append a b who =
     ap (map (λ (l : ScriptLine). l.call)) (filter-append (λ (l : ScriptLine). eqb l.who who) a b)
     ∙ map-append (λ (l : ScriptLine). l.call) (filter (λ (l : ScriptLine). eqb l.who who) a) (filter (λ (l : ScriptLine). eqb l.who who) b)
 
+-- a script without lines is within the limits
 pub IsWithinLimits-nil : IsWithinLimits []
 IsWithinLimits-nil = record { calls = λ who. omega arith; written = tt; asked = tt; written_in_all = omega arith; asked_in_all = omega arith }
 
+-- a script within the limits is so with one line more that passes none
 pub IsWithinLimits-more : (before : List ScriptLine) (line : ScriptLine) → IsWithinLimits before → limit_passed before line ≡ None → IsWithinLimits (before ++ line ∷ [])
 IsWithinLimits-more before line was passed =
     let within = IsWithin-passed before line passed in record {
@@ -104,6 +106,7 @@ pub record Adds (before : List ScriptLine) (lines : List (List ℕ)) (script : L
   pub spelled : SpellLines lines added
   pub limited : IsWithinLimits script
 
+-- a line that is skipped in front of lines leaves the script that they spell
 pub skipped : (line : List ℕ) (lines : List (List ℕ)) (script : List ScriptLine) → IsUtf8 line → IsSkippedLine line → SpellLines lines script → SpellLines (line ∷ lines) script
 skipped line lines [] valid skip rest = (valid, skip, rest)
 skipped line lines (spelled ∷ script) valid skip rest = (valid, inl (skip, rest))
@@ -152,10 +155,12 @@ from_only n before (line ∷ lines) (spelled ∷ added) h within = ⊎_elim
     ∙ from_only (n + 1) (before ++ spelled ∷ []) lines added call.1 still ∙ ap Ok moved)
     h.1
 
+-- a text that is not refused for its length is read on
 pub short_text : (b : Bool) (e : ScriptErr) (r : Result (List ScriptLine) ScriptErr) (script : List ScriptLine) → cond b (Err e) r ≡ Ok script → (b ≡ false) × (r ≡ Ok script)
 short_text true e r script h = cc
 short_text false e r script h = (refl, h)
 
+-- a text that is read as a script spells it
 pub script_found : (text : List ℕ) (script : List ScriptLine) → script_of text ≡ Ok script → IsScriptText text script
 script_found text script e =
     let short = short_text (nat_lt longest_script (length text)) _ (script_from 1 [] (lines_of text)) script e in
@@ -168,6 +173,7 @@ script_found text script e =
       limited = adds.limited;
     }
 
+-- a text that spells a script is read as that script
 pub script_only : (text : List ℕ) (script : List ScriptLine) → IsScriptText text script → script_of text ≡ Ok script
 script_only text script h =
     let short : nat_lt longest_script (length text) ≡ false = grind (arith, nat_tests, h.short) in

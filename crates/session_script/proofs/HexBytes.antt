@@ -5,6 +5,7 @@ use Rattle.std.specs.Option.{option_map}
 use Rattle.std.proofs.lemmas.List.{drop_more, drop_all}
 use Rattle.session_script.specs.Words.{hex_value, hex_bytes}
 
+-- an odd count of hexadecimal digits spells no bytes
 pub odd : (text : List ℕ) → length text % 2 ≡ 1 → hex_bytes text ≡ None
 odd [] h = absurd (omega arith)
 odd (d ∷ []) h = refl
@@ -23,6 +24,7 @@ at_pair text k lt =
     drop_more text (2 * k) 0 (omega arith) ∙ ap (λ r. get_or text (2 * k) 0 ∷ r) (drop_more text (2 * k + 1) 0 lt)
     ∙ ap (λ n. get_or text (2 * k) 0 ∷ get_or text (2 * k + 1) 0 ∷ drop n text) (let e : 2 * k + 1 + 1 ≡ 2 * (k + 1) = omega arith in e)
 
+-- a pair of hexadecimal digits is taken as one byte more
 pub pair_more : (text front : List ℕ) (k byte : ℕ) → 2 * k + 1 < length text → hex_value (get_or text (2 * k) 0) (get_or text (2 * k + 1) 0) ≡ Some byte
     → rest_of front (drop (2 * k) text) ≡ rest_of (front ++ byte ∷ []) (drop (2 * (k + 1)) text)
 pair_more text front k byte lt is =
@@ -34,6 +36,7 @@ pair_more text front k byte lt is =
     pushed None = refl
     pushed (Some bytes) = ap Some (sym (append_assoc front (byte ∷ []) bytes))
 
+-- a pair that is not of hexadecimal digits makes the whole spell nothing
 pub pair_wrong : (text front : List ℕ) (k : ℕ) → 2 * k + 1 < length text → hex_value (get_or text (2 * k) 0) (get_or text (2 * k + 1) 0) ≡ None → rest_of front (drop (2 * k) text) ≡ None
 pair_wrong text front k lt is =
     ap (rest_of front) (at_pair text k lt)

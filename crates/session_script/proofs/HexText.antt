@@ -20,6 +20,7 @@ same_at (suc n) d h lt =
 digit_same : (d : ℕ) → d < 16 → get_or lower_digits d 0 ≡ digit_glyph false d
 digit_same d lt = same_at 16 d refl lt
 
+-- the encoder writes each byte as its two hexadecimal digits
 pub encode_lower-hex_byte : (bytes : List ℕ) → All (λ b. b < 256) bytes → encode_lower bytes ≡ flat_map hex_byte bytes
 unfolding encode_with
 encode_lower-hex_byte [] small = refl

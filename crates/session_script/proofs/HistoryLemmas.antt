@@ -47,6 +47,7 @@ numbers_go_on true calls call nth next =
     ap (λ n. range_with_len 0 (length calls) ++ n ∷ []) (next refl) ∙ sym (range_more (length calls)) ∙ ap (range_with_len 0) (sym (length_push calls call))
 numbers_go_on false calls call nth next = simp append-nil refl
 
+-- a placement of the next line's call keeps each session's calls in order
 pub interleaving_more : (script : List ScriptLine) (line : ScriptLine) (history : List Placed) (p : Placed) → p.who ≡ line.who → p.nth ≡ length (calls_of script line.who) → IsInterleaving (calls_of script) history
     → IsInterleaving (calls_of (script ++ line ∷ [])) (history ++ p ∷ [])
 interleaving_more script line history p same next so_far who =

@@ -31,9 +31,11 @@ joined_found line spelled (word ∷ words) joined e = at (session_of word) refl 
     at None is h = cc
     at (Some who) is h = called who is (call_of words) refl h
 
+-- a line that is read as a session and its call spells them
 pub spelled_found : (line : List ℕ) (spelled : ScriptLine) → spelled_by (words_of line) ≡ Ok spelled → IsCallLine line spelled
 spelled_found line spelled e = joined_found line spelled (words_of line) (IsJoined-split 32 line) e
 
+-- a line that spells a session and its call is read so
 pub spelled_only : (line : List ℕ) (spelled : ScriptLine) → IsCallLine line spelled → spelled_by (words_of line) ≡ Ok spelled
 spelled_only line spelled h =
     ap spelled_by (ap words_of h.joined.joined ∙ split_joined 32 (h.word ∷ h.words) (omega arith) h.joined.free)
@@ -51,6 +53,7 @@ begins_with_digit (d ∷ word) (next ∷ words) some digits = digit_line d _ dig
 not_skipped : (line : List ℕ) (spelled : ScriptLine) → IsCallLine line spelled → is_skipped line ≡ false
 not_skipped line spelled h = ap is_skipped h.joined.joined ∙ begins_with_digit h.word h.words h.session.number.some h.session.number.digits
 
+-- a line that is taken as skipped is empty or a comment
 pub skip_found : (line : List ℕ) → is_skipped line ≡ true → IsSkippedLine line
 skip_found [] h = tt
 skip_found (c ∷ line) h = grind (arith, nat_tests)
@@ -67,6 +70,7 @@ tested_utf8 : (before : List ScriptLine) (utf8 skipped : Bool) (r : Result Scrip
 tested_utf8 before true skipped r o h = refl
 tested_utf8 before false skipped r o h = cc
 
+-- a line that is not refused is UTF-8
 pub line_utf8 : (before : List ScriptLine) (line : List ℕ) (o : Option ScriptLine) → line_of before line ≡ Ok o → IsUtf8 line
 line_utf8 before line o e = IsUtf8-from_is_utf8 line (tested_utf8 before (is_utf8 line) (is_skipped line) (spelled_by (words_of line)) o e)
 
@@ -83,14 +87,17 @@ tested_none before false skipped r h = cc
 tested_none before true true r h = refl
 tested_none before true false r h = absurd (never_none before r h)
 
+-- a line that gives nothing is one that is skipped
 pub line_none : (before : List ScriptLine) (line : List ℕ) → line_of before line ≡ Ok None → IsSkippedLine line
 line_none before line e = skip_found line (tested_none before (is_utf8 line) (is_skipped line) (spelled_by (words_of line)) e)
 
+-- an empty line or comment in UTF-8 gives nothing
 pub line_skip_only : (before : List ScriptLine) (line : List ℕ) → IsUtf8 line → IsSkippedLine line → line_of before line ≡ Ok None
 line_skip_only before line valid skip =
     ap (λ b. tested before b (is_skipped line) (spelled_by (words_of line))) (is_utf8-from_IsUtf8 line valid)
     ∙ ap (λ b. tested before true b (spelled_by (words_of line))) (skip_only line skip)
 
+-- a line that spells a call within the limits gives that call
 pub line_call_only : (before : List ScriptLine) (line : List ℕ) (spelled : ScriptLine) → IsUtf8 line → IsCallLine line spelled → limit_passed before spelled ≡ None → line_of before line ≡ Ok (Some spelled)
 line_call_only before line spelled valid called within =
     ap (λ b. tested before b (is_skipped line) (spelled_by (words_of line))) (is_utf8-from_IsUtf8 line valid)

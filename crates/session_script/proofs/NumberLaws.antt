@@ -10,6 +10,7 @@ use Rattle.session_script.specs.Bounds.{most_sessions}
 use Rattle.session_script.specs.Words.{decimal_value, number_of, session_of}
 use Rattle.session_script.specs.ScriptText.{IsDecimalDigit, place_value, SpellsNumber, SpellsSession}
 
+-- where a condition gives something, it holds and that is what it gives
 pub some_if : {A : Type 0} (b : Bool) (x y : A) → cond b (Some x) None ≡ Some y → (b ≡ true) × (x ≡ y)
 some_if true x y e = (refl, cc)
 some_if false x y e = cc
@@ -36,6 +37,7 @@ folded [] a = omega arith
 folded (d ∷ digits) a =
     folded digits (a * 10 + (d - 48)) ∙ ap (λ n. n + place_value digits) (shifted a (d - 48) (10 ^ length digits) (10 ^ suc (length digits)) (pow-suc 10 (length digits))) ∙ omega arith
 
+-- a word that is read as a number spells it
 pub number_found : (word : List ℕ) (n : ℕ) → number_of word ≡ Some n → SpellsNumber word n
 number_found word n e =
     let parts = some_if (nat_le 1 (length word) && nat_le (length word) 20 && list_all (λ d. is_digit d 10) word && nat_lt (decimal_value word) (2 ^ 64)) (decimal_value word) n e in
@@ -50,6 +52,7 @@ number_found word n e =
       small = subst (λ m. m < 2 ^ 64) parts.1 below;
     }
 
+-- a word that spells a number is read as that number
 pub number_only : (word : List ℕ) (n : ℕ) → SpellsNumber word n → number_of word ≡ Some n
 number_only word n h =
     let value : decimal_value word ≡ n = folded word 0 ∙ (let e : 0 * 10 ^ length word + place_value word ≡ place_value word = omega arith in e) ∙ h.value in
@@ -73,6 +76,7 @@ no_zero_front (d ∷ word) h = grind (arith, nat_tests)
 abbrev in_range : List ℕ → ℕ → Bool
 in_range word who = nat_le 1 who && nat_le who most_sessions && not (starts_with nat_eq word (codes "0"))
 
+-- a word that is read as a session spells it
 pub session_found : (word : List ℕ) (who : ℕ) → session_of word ≡ Some who → SpellsSession word who
 session_found word who e = at (number_of word) refl e
   where
@@ -91,6 +95,7 @@ session_found word who e = at (number_of word) refl e
           no_zero = zero_front word first.1;
         }
 
+-- a word that spells a session is read as that session
 pub session_only : (word : List ℕ) (who : ℕ) → SpellsSession word who → session_of word ≡ Some who
 session_only word who h =
     let low : nat_le 1 who ≡ true = grind (arith, nat_tests, h.low) in

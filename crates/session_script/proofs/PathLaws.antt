@@ -44,13 +44,16 @@ split_free byte (x ∷ text) = at (eqb x byte) (λ h e. ne_from h e) (split_free
     at true ne h = (tt, h)
     at false ne h = onto_free byte x (slice_split (λ c. eqb c byte) text) (ne refl) h
 
+-- the pieces of a text that is cut at a byte make it again when joined by that byte
 pub IsJoined-split : (byte : ℕ) (text : List ℕ) → IsJoined byte (slice_split (λ b. eqb b byte) text) text
 IsJoined-split byte text = record { joined = sym (join_with_byte-slice_split byte text); free = split_free byte text }
 
+-- where a condition would give nothing and something is given, it does not hold
 pub none_unless : {A : Type 0} (b : Bool) (o : Option A) (y : A) → cond b None o ≡ Some y → (b ≡ false) × (o ≡ Some y)
 none_unless true o y e = cc
 none_unless false o y e = (refl, e)
 
+-- a piece that is not found empty has a byte or more
 pub not_empty : (piece : List ℕ) → is_empty piece ≡ false → 1 ≤ length piece
 not_empty [] h = absurd (no_sides h)
   where
@@ -58,6 +61,7 @@ not_empty [] h = absurd (no_sides h)
     no_sides e = cc
 not_empty (b ∷ piece) h = omega arith
 
+-- a piece with a byte or more is not found empty
 pub empty_no : (piece : List ℕ) → 1 ≤ length piece → is_empty piece ≡ false
 empty_no piece h = ne_eqb (length piece) 0 (λ e. omega arith)
 
@@ -126,6 +130,7 @@ behind_slash (piece ∷ pieces) (name ∷ names) rest some joined free named =
     let P : List ℕ → Type 0 = λ w. SpellsNames w (name ∷ names) in
     subst P (sym (slashed_joined piece pieces) ∙ ap (λ r. 47 ∷ r) joined) (pieces_found (piece ∷ pieces) (name ∷ names) free named)
 
+-- a word that is read as a path spells it
 pub path_found : (word : List ℕ) (path : List (List ℕ)) → path_of word ≡ Some path → SpellsPath word path
 path_found [] path e = cc
 path_found (c ∷ rest) path e = outer (eqb c 47) refl e
@@ -150,6 +155,7 @@ path_found (c ∷ rest) path e = outer (eqb c 47) refl e
     outer true is h = inner (eqb-true c 47 is) (is_empty rest) refl h
     outer false is h = cc
 
+-- a word that spells a path is read as that path
 pub path_only : (word : List ℕ) (path : List (List ℕ)) → SpellsPath word path → path_of word ≡ Some path
 path_only word [] h = ap path_of h
 path_only word (name ∷ names) h =

@@ -353,6 +353,7 @@ from_refused n before (line ∷ lines) e is within = at (line_of before line) re
           refused = subst (λ b. IsRefusedLine b more.line e.why) moved more.refused;
         }
 
+-- a text that is refused is too long, or has a first line that is refused
 pub first_refused : (text : List ℕ) (e : ScriptErr) → script_of text ≡ Err e → IsTooLong text e ⊎ IsRefusedText text e
 first_refused text e is = at (nat_lt longest_script (length text)) refl is
   where

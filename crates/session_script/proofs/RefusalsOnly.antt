@@ -252,5 +252,6 @@ long_refused text e h =
     let long : nat_lt longest_script (length text) ≡ true = grind (arith, nat_tests, h.1) in
     ap (λ b. cond b (Err (record { line = 0; why = reasons.Long })) (script_from 1 [] (lines_of text))) long ∙ ap Err (sym h.0)
 
+-- a text that is too long, or has a first refused line, is refused so
 pub refusal_only : (text : List ℕ) (e : ScriptErr) → IsRefusal text e → script_of text ≡ Err e
 refusal_only text e h = ⊎_elim (λ (long : IsTooLong text e). long_refused text e long) (λ (refused : IsRefusedText text e). text_refused text e refused) h

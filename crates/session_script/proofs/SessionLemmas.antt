@@ -27,6 +27,7 @@ calls_more (x ∷ a) l who = at (eqb x.who who) (calls_more a l who)
     at true same = ap (λ s. x.call ∷ s) same
     at false same = same
 
+-- how many calls a session has with one line more
 pub length-calls_more : (a : List ScriptLine) (l : ScriptLine) (who : ℕ) → length (calls_of (a ++ l ∷ []) who) ≡ length (calls_of a who) + cond (eqb l.who who) 1 0
 length-calls_more a l who = ap length (calls_more a l who) ∙ at (eqb l.who who)
   where
@@ -34,6 +35,7 @@ length-calls_more a l who = ap length (calls_more a l who) ∙ at (eqb l.who who
     at true = length_push (calls_of a who) l.call
     at false = ap length (append-nil (calls_of a who)) ∙ omega arith
 
+-- a session has no more calls than the script has lines
 pub length-calls-le : (a : List ScriptLine) (who : ℕ) → length (calls_of a who) ≤ length a
 length-calls-le [] who = omega arith
 length-calls-le (x ∷ a) who = at (eqb x.who who) (length-calls-le a who)
@@ -60,6 +62,7 @@ places_more n (x ∷ a) l who = at (eqb x.who who) (places_more (n + 1) a l who 
 places_most : (a : List ScriptLine) (l : ScriptLine) (who : ℕ) → places_from 0 (a ++ l ∷ []) who ≡ places_from 0 a who ++ cond (eqb l.who who) (length a ∷ []) []
 places_most a l who = places_more 0 a l who ∙ ap (λ k. places_from 0 a who ++ cond (eqb l.who who) (k ∷ []) []) (zero-add (length a))
 
+-- a session's lines are as many as its calls
 pub length-places_from : (n : ℕ) (a : List ScriptLine) (who : ℕ) → length (places_from n a who) ≡ length (calls_of a who)
 length-places_from n [] who = refl
 length-places_from n (x ∷ a) who = at (eqb x.who who) (length-places_from (n + 1) a who)
@@ -88,6 +91,7 @@ further n x a who nth m place h same =
       called = same ∙ h.called;
     }
 
+-- a session's call of a number stands at the line that is listed for it
 pub call_there : (n : ℕ) (a : List ScriptLine) (who nth : ℕ) → nth < length (places_from n a who) → IsCallAt n a who nth (get_or (places_from n a who) nth 0)
 call_there n [] who nth lt = absurd (omega arith)
 call_there n (x ∷ a) who nth lt = at (eqb x.who who) refl nth lt (λ m l. call_there (n + 1) a who m l)
@@ -140,6 +144,7 @@ greatest-more a l = from 0 a
     from n [] = refl
     from n (x ∷ b) = from (max n x.who) b
 
+-- one line more of one of the 16 sessions leaves all sessions among these
 pub HasSessions-more : (a : List ScriptLine) (l : ScriptLine) → HasSessions a → 1 ≤ l.who → l.who ≤ most_sessions → HasSessions (a ++ l ∷ [])
 HasSessions-more a l has low high k d lt = ⊎_elim
     (λ (within : k < length a). subst (λ (x : ScriptLine). (1 ≤ x.who) × (x.who ≤ most_sessions)) (sym (get_or_append_left a (l ∷ []) d k within)) (has k d within))
@@ -187,11 +192,13 @@ IsIndexed-push a nths places sessions l nth more greatest was low high small cou
   greatest = best ∙ ap (λ n. max n l.who) was.greatest ∙ sym (greatest-more a l);
 }
 
+-- the list of places that is kept for a session is that of its lines
 pub list_of : (a : List ScriptLine) (nths : List ℕ) (places : List (List ℕ)) (sessions who : ℕ) (x : List ℕ) → IsIndexed a nths places sessions → 1 ≤ who → who ≤ most_sessions → x ≡ get_or places (who - 1) x → x ≡ places_from 0 a who
 list_of a nths places sessions who x was low high read =
     let listed : length places ≡ most_sessions = was.listed in
     read ∙ get_or_default places (who - 1) x [] (omega arith) ∙ was.lists who low high
 
+-- the index of a script's lines stays right with one line more
 pub IsIndexed-pushed : (a lines : List ScriptLine) (nths numbers : List ℕ) (places : List (List ℕ)) (sessions greatest : ℕ) (l : ScriptLine) (nth place : ℕ) (read old new : List ℕ)
     → IsIndexed a nths places sessions → 1 ≤ l.who → l.who ≤ most_sessions → length a + 1 < 2 ^ 32
     → lines ≡ a ++ l ∷ [] → numbers ≡ nths ++ nth ∷ [] → nth ≡ length read → read ≡ get_or places (l.who - 1) read → old ≡ get_or places (l.who - 1) old
@@ -205,6 +212,7 @@ IsIndexed-pushed a lines nths numbers places sessions greatest l nth place read 
     rw (lines_are, numbers_are)
     (IsIndexed-push a nths places sessions l nth (set places (l.who - 1) new) greatest was low high small (counted ∙ ap length read_there) (ap (set places (l.who - 1)) new_there) best)
 
+-- a session that has a call is one of the 16
 pub session_of_call : (a : List ScriptLine) (who nth : ℕ) → HasSessions a → nth < length (calls_of a who) → (1 ≤ who) × (who ≤ most_sessions)
 session_of_call a who nth has lt = ⊎_elim
     (λ (low : who < 1). absurd (omega (arith, no_calls a who has (λ x y. omega arith))))

@@ -14,6 +14,7 @@ use Rattle.space_laws.specs.Examples.{TellsHistories}
 get_put : (m : Nodes) (p : List (List ℕ)) (node : Node) (q : List (List ℕ)) → fin.get (fin.insert m p node) q ≡ cond (eq_by_cmp path_cmp q p) (Some node) (fin.get m q)
 get_put = fin.get-insert path_total
 
+-- what the space is after worked histories
 pub tells_histories : (at : Moment) → TellsHistories at
 tells_histories at = record {
   needs_53 = simp (get_put) refl;

@@ -63,6 +63,7 @@ files_still : (g : Given) (on : Bool) (st : Standing) (call : Call) → files_af
 files_still g on st (Write path offset bytes) = refl
 files_still g on st _ = refl
 
+-- calls that need no room on the tape ask plainly
 pub ask_plainly : AskPlainly
 ask_plainly = record { unrefused = unrefused; asked = asked; stored = stored; files = files; files_still = files_still }
 

@@ -2,6 +2,7 @@
 use Rattle.std.proofs.Common.{refl}
 use Rattle.space_laws.specs.Examples.{TellsSpace}
 
+-- what the space is in worked cases
 pub tells_space : TellsSpace
 tells_space = record {
   is_full = refl;

@@ -16,6 +16,7 @@ use Rattle.space_laws.specs.Space.{Ask, change, nothing}
 use Rattle.space_laws.specs.Space as space
 use Rattle.space_laws.specs.Standing.{Given, Standing, after_done, after_placed, ask_of, ask_unless, ask_unrefused, files_after, rules}
 
+-- what a plan admits of data, of a sync's index and at a close is what the space admits
 pub are_steps : AreSteps
 are_steps = record { stored = λ v on s ops wanted bytes. refl; indexed = λ v on s ops text. refl; closed = λ v on s ops text. refl }
 
@@ -48,5 +49,6 @@ still g on st call at e =
     ∙ ap (λ t. record { tree = t; files = files_after g on st call nothing; space = st.space }) same
     ∙ ap (λ f. record { tree = st.tree; files = f; space = st.space }) (ask_plainly.files_still g on st call)
 
+-- a void placement, and a call that asks nothing of the tape, leave what stands
 pub are_still : AreStill
 are_still = record { void = void; nothing_asked = still }

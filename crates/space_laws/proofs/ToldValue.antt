@@ -289,8 +289,10 @@ module _ (v : IndexValue) where
 pub told_value : (index : Index) (v : IndexValue) → Tells index v → value_of index ≡ Some v
 told_value index v h = with_root_is v index index.nodes h.volume h.nodes
 
+-- an index and a value that it tells have the same canonical form
 pub told_text : (index : Index) (v : IndexValue) → Tells index v → canon index ≡ canonical v
 told_text index v h = ap (λ (o : Option IndexValue). unwrap_or (option_map canonical o) []) (told_value index v h)
 
+-- the value of an index that tells one is that value
 pub values_are_told : ValuesAreTold
 values_are_told = record { value = told_value; text = told_text }

@@ -27,5 +27,6 @@ many g on [] k st = refl
 many g on (p ∷ ps) k st =
     many g on ps (k + 1) (after_placed g (is_on g.mounted on k) st p) ∙ ap (λ t. fold (after_placement g.calls) t ps) (one g (is_on g.mounted on k) st p)
 
+-- the tree after the first placements is the one that replaying them gives
 pub are_replays : TreesAreReplays
 are_replays g on history k = many g on (take k history) 0 (first_standing g)

@@ -87,6 +87,7 @@ module _ (D C : RattleType) (d : drives.Ghosts D.Denot) (c : clocks.Ghosts C.Den
   shelf_send : IsSend (shelves.the_row D C d c)
   shelf_send = view_send _ _ _ _ _ (declared_send (declared (shelf.struct D C d c) (shelf.the_propositions D.Denot C.Denot)) (search volume_send depth 60 fits 100000, tt))
 
+  -- a pass of a desk may go to another thread, over a drive and a clock that may
   pub pass_send : IsSend (passes.the_row D C d c)
   pass_send = view_send _ _ _ _ _ (declared_send (declared (pass.struct D C d c) (pass.the_propositions D.Denot C.Denot)) (
     search (crossing.pass_send, shelf_send, crosses, sendable) depth 60 fits 100000,
@@ -96,6 +97,7 @@ module _ (D C : RattleType) (d : drives.Ghosts D.Denot) (c : clocks.Ghosts C.Den
     ),
   ))
 
+  -- a desk may be shared with another thread, over a drive and a clock that may
   pub desk_sync : IsSync (desks.the_row D C d c)
   desk_sync = view_sync _ _ _ _ _ (declared_sync (declared (desk.struct D C d c) (desk.the_propositions D.Denot C.Denot))
       (search (crossing.lock_sync, shelf_send, crosses, sendable) depth 60 fits 100000, tt))

@@ -71,6 +71,7 @@ module _ {D : Type 0} where
 
   -- ---- the loop
 
+  -- before the first is dealt, all passes are still to come
   pub first_dealt : (lock : TableId) (sessions : ℕ) (counts : List ℕ) (whole : Whole D) (ps : List (DeskView D))
       → 1 ≤ sessions → ps ≡ [] → CanDeal lock sessions counts whole → HasDealt lock sessions counts whole sessions whole ps
   first_dealt lock sessions counts whole ps some none can =
@@ -97,6 +98,7 @@ module _ {D : Type 0} where
         has.can.counts_are.each (n - 1) 0 (omega (arith, many, sum, some))
         ∙ ap (λ (who : ℕ). length (calls_of has.can.fixed.script who)) (let h : n - 1 + 1 ≡ n = omega (arith, some) in h)
 
+    -- as long as more than one pass is to come, more than one number is left
     pub many_left : 1 < n → 2 ≤ length whole.numbers
     many_left more =
         let h : length whole.numbers ≡ length (numbers_to n) = ap (λ (p : Whole D). length p.numbers) has.whole_is in
@@ -131,9 +133,11 @@ module _ {D : Type 0} where
       pass_is : pass ≡ of_numbers lock sessions has.can.fixed (n ∷ [])
       pass_is = subst (λ (who : ℕ). pass ≡ of_numbers lock sessions has.can.fixed (who ∷ [])) (sym up) parts.1
 
+      -- the next pass that is dealt is one of which nothing was asked
       pub next_begins : CanBegin n count pass
       next_begins = begins pass pass_is
 
+      -- one pass more is dealt in front of the others
       pub next_dealt : 1 < n → (qs : List (DeskView D)) (x : DeskView D) → qs ≡ x ∷ ps → x ≡ view_of pass n 0
           → HasDealt lock sessions counts first (n - 1) new qs
       next_dealt more qs x is begun = subst (λ (l : List (DeskView D)). HasDealt lock sessions counts first (n - 1) new l)
@@ -153,10 +157,12 @@ module _ {D : Type 0} where
       left_is = subst (λ (k : ℕ). whole ≡ of_numbers lock sessions has.can.fixed (k ∷ [])) (sym one_is)
           (subst (λ (k : ℕ). whole ≡ of_numbers lock sessions has.can.fixed (numbers_to k)) one_is has.whole_is)
 
+      -- the last pass is one of which nothing was asked
       pub last_begins : CanBegin n (slice_index_or counts 0 0) whole
       last_begins = subst (λ (k : ℕ). CanBegin n (slice_index_or counts k 0) whole)
           (let h : n - 1 ≡ 0 = omega (arith, one_is) in h) (begins whole left_is)
 
+      -- with the last pass, all are dealt
       pub all_dealt : (qs : List (DeskView D)) (x : DeskView D) → qs ≡ x ∷ ps → x ≡ view_of whole n 0
           → (fixed : Fixed D) → first.fixed ≡ Some fixed → AreDealt lock sessions fixed qs
       all_dealt qs x is begun fixed known =

@@ -33,6 +33,7 @@ same_kinds who numbers before whole own same = own_kinds who whole
 
 -- ---- marks that a session adds
 
+-- the marks of a session grow by those of its own call
 pub kinds_more : (who : ℕ) (old new : List Mark) (kinds : List MarkKind) → new ≡ old ++ map (mark who) kinds
     → kinds_of who new ≡ kinds_of who old ++ kinds
 kinds_more who old new kinds more =
@@ -44,20 +45,24 @@ all_own : (who : ℕ) (kinds : List MarkKind) → All (λ (m : Mark). m.who ≡ 
 all_own who [] = All-nil (λ (m : Mark). m.who ≡ who)
 all_own who (kind ∷ kinds) = All-cons (λ (m : Mark). m.who ≡ who) (mark who kind) (map (mark who) kinds) refl (all_own who kinds)
 
+-- the marks that are added to the list are the session's own
 pub own_more : (who : ℕ) (numbers : List ℕ) (old new : List Mark) (kinds : List MarkKind) → numbers ≡ who ∷ []
     → new ≡ old ++ map (mark who) kinds → AddsOwn (λ (m : Mark). m.who) numbers old new
 own_more who numbers old new kinds own more = adds_more (λ (m : Mark). m.who) who numbers old new (map (mark who) kinds) own more (all_own who kinds)
 
 -- ---- what kinds say
 
+-- the phase of a session goes on by the marks of its call
 pub phase_then : (who : ℕ) (old new : List Mark) (kinds : List MarkKind) → kinds_of who new ≡ kinds_of who old ++ kinds
     → phase who new ≡ fold after (phase who old) kinds
 phase_then who old new kinds more = ap (fold after idle) more ∙ fold-append after idle (kinds_of who old) kinds
 
+-- the places of a session go on by those in its marks
 pub places_then : (who : ℕ) (old new : List Mark) (kinds : List MarkKind) → kinds_of who new ≡ kinds_of who old ++ kinds
     → places_of who new ≡ places_of who old ++ filter_map place_in kinds
 places_then who old new kinds more = ap (filter_map place_in) more ∙ filter_map-append place_in (kinds_of who old) kinds
 
+-- the replies that were handed to a session go on by those in its marks
 pub hands_then : (who : ℕ) (old new : List Mark) (kinds : List MarkKind) → kinds_of who new ≡ kinds_of who old ++ kinds
     → hands_of who new ≡ hands_of who old ++ filter_map hand_in kinds
 hands_then who old new kinds more = ap (filter_map hand_in) more ∙ filter_map-append hand_in (kinds_of who old) kinds

@@ -27,6 +27,7 @@ abbrev Whole : Type 0 → Type 0
 Whole D = PassView Mark (Fixed D)
 
 module _ {D : Type 0} where
+  -- a pass that a session has is the lock's
   pub is_pass : (pass : Whole D) (who placed count : ℕ) (p : DeskView D) → IsHeld pass who placed count
       → view_of pass who placed ≡ p → IsPassOf p pass
   is_pass pass who placed count p held is = subst (λ (q : DeskView D). IsPassOf q pass) is record {
@@ -75,6 +76,7 @@ module _ {D : Type 0} where
           ∙ ap (kinds_of p.who) (sym seen_is);
     }
 
+    -- a pass that is joined is taken in
     pub takes_in : TakesIn p old new
     takes_in = record {
       lock = ap (λ (w : Whole D). w.lock) is;
@@ -90,6 +92,7 @@ module _ {D : Type 0} where
 
   -- ---- the passes that are left, and those that were taken in
 
+  -- the passes that are left, and those that were taken in, are all
   pub still_all : (ps left rest tail : List (DeskView D)) (x : DeskView D) → left ≡ rest ++ x ∷ [] → left ++ tail ≡ ps
       → (rest ++ x ∷ []) ++ tail ≡ ps
   still_all ps left rest tail x is all = ap (λ (qs : List (DeskView D)). qs ++ tail) (sym is) ∙ all
@@ -101,12 +104,14 @@ module _ {D : Type 0} where
         ∙ get_or_append_left (rest ++ x ∷ []) tail p (length rest) (omega (arith, length_push rest x))
         ∙ get_or_push rest x p (length rest) refl
 
+    -- fewer passes are left than there are
     pub inside : length rest < length ps
     inside =
         let sum : length ((rest ++ x ∷ []) ++ tail) ≡ length ps = ap length all in
         omega (arith, sum, length-append (rest ++ x ∷ []) tail, length_push rest x)
 
     module _ (lock : TableId) (every : AreAll lock ps) where
+      -- the pass that is taken in is of the same lock
       pub lock_is : x.lock ≡ lock
       lock_is = ap (λ (p : DeskView D). p.lock) (sym (is_at x)) ∙ (every.1 (length rest) x inside).0
 
@@ -143,6 +148,7 @@ module _ {D : Type 0} where
           own = ap (kinds_of x.who) (sym (ap (λ (p : DeskView D). p.seen) of.view));
         }
 
+      -- one pass more is taken in
       pub next_gathered : (n : ℕ) (old new : Whole D) → n ≡ length rest + 1 → HasGathered lock ps n old → TakesIn x old new
           → HasGathered lock ps (length rest) new
       next_gathered n old new next has takes = record {
@@ -176,6 +182,7 @@ module _ {D : Type 0} where
       own : kinds_of p.who v.marks ≡ kinds_of p.who p.seen
       own = ap (kinds_of p.who) marks_are ∙ within.own
 
+    -- once all passes are gathered, each is part of the volume
     pub are_parts : ArePartsOf ps v
     are_parts k p within = part (slice_index_or ps k p) (has.each k p (omega arith) within)
 
@@ -189,6 +196,7 @@ module _ {D : Type 0} where
         ∙ if_some (λ (f : Fixed D). (slice_index_or ps 0 some).sessions ≡ greatest_session f.script)
         (slice_index_or ps 0 some).fixed v.fixed (first.fixed ∙ fixed_is) first.rested.sessions
 
+    -- once all passes are gathered, nothing waits
     pub nothing_waits : NothingWaits (greatest_session v.fixed.script) v.marks
     nothing_waits who from to =
         let k : ℕ = who - 1 in

@@ -33,12 +33,14 @@ module _ {D : Type 0} where
     begins = (first.begins.0 ++ later.begins.0, sym (append_assoc a.seen first.begins.0 later.begins.0) ∙ ap (λ l. l ++ later.begins.0) first.begins.1 ∙ later.begins.1);
   }
 
+  -- turns of a session one behind the other add the marks of both
   pub goes_then : (who : ℕ) (xs ys : List MarkKind) (a b c : PassOf D) → GoesOn who xs a b → GoesOn who ys b c → GoesOn who (xs ++ ys) a c
   goes_then who xs ys a b c first later = record {
     keeps = keeps_then a b c first.keeps later.keeps;
     adds = later.adds ∙ ap (λ l. l ++ ys) first.adds ∙ append_assoc (kinds_of who a.seen) xs ys;
   }
 
+  -- a turn of a number is one of the session with that number
   pub of_session : (n who : ℕ) (kinds : List MarkKind) (a b : PassOf D) → n ≡ who → GoesOn n kinds a b → GoesOn who kinds a b
   of_session n who kinds a b same goes = subst (λ (k : ℕ). GoesOn k kinds a b) same goes
 
@@ -48,6 +50,7 @@ module _ {D : Type 0} where
 
   -- ---- a call that is put off
 
+  -- a write that was put off, drained and rested is put off again
   pub off_again : (who : ℕ) (a b c d : PassOf D) → IsPutOff who a b → GoesOn who (begins ∷ []) b c → GoesOn who (rests ∷ []) c d
       → IsPutOff who a d
   off_again who a b c d off begun rested =
@@ -71,15 +74,18 @@ module _ {D : Type 0} where
     hands = hands_then who b.seen c.seen kinds goes.adds ∙ ap (λ l. hands_of who b.seen ++ l) hand ∙ ap (λ l. l ++ (here, reply) ∷ []) off.hands;
   }
 
+  -- a call that is answered at once is made
   pub made_at_once : (who here : ℕ) (reply : Reply) (a b c : PassOf D) → IsPutOff who a b → GoesOn who (answered_at here reply) b c
       → IsMade who reply a c
   made_at_once who here reply a b c off goes = made_by who here reply (answered_at here reply) a b c off goes refl refl (placed_phase here reply)
 
+  -- a call that waited, and was handed its reply, is made
   pub made_in_time : (who ticket : ℕ) (reply : Reply) (a b c d : PassOf D) → IsPutOff who a b → GoesOn who (places ticket ∷ []) b c
       → GoesOn who (hands ticket reply ∷ []) c d → IsMade who reply a d
   made_in_time who ticket reply a b c d off placed handed =
       made_by who ticket reply (answered_at ticket reply) a b d off (goes_then who (places ticket ∷ []) (hands ticket reply ∷ []) b c d placed handed) refl refl (placed_phase ticket reply)
 
+  -- a write whose drain failed is made, with its fault
   pub made_void : (who here : ℕ) (reply : Reply) (a b c d : PassOf D) → IsPutOff who a b → GoesOn who (begins ∷ []) b c
       → GoesOn who (answered_at here reply) c d → IsMade who reply a d
   made_void who here reply a b c d off begun answered =
@@ -92,6 +98,7 @@ module _ {D : Type 0} where
   one_up who n None more = more
   one_up who n (Some f) more = omega (arith, more)
 
+  -- a pass whose call was made is held for the next one
   pub held_again : (who n count : ℕ) (reply : Reply) (a b : PassOf D) (view : DeskView D) → view_of a who n ≡ view → IsHeld a who n count
       → HasMore view → IsMade who reply a b → IsHeld b who (n + 1) count
   held_again who n count reply a b view is held more made =

@@ -12,6 +12,7 @@ use Rattle.serving_promise.specs.Marks.{kinds_of}
 use Rattle.serving_promise.specs.declared.marks.MarkKind.{MarkKind}
 use Rattle.serving_promise.specs.declared.marks.Mark.{Mark}
 
+-- the session of a mark
 abbrev pub who_of : Mark → ℕ
 who_of m = m.who
 
@@ -29,5 +30,6 @@ kinds_known seats who numbers seen whole at sees =
     ap (map (λ (m : Mark). m.kind))
     (sym (own_marks who whole) ∙ own_of_one who_of seats who numbers seen whole at sees ∙ own_marks who seen)
 
+-- a pass with one number has that number
 pub has_own : (n : ℕ) (numbers : List ℕ) → numbers ≡ n ∷ [] → Contains numbers n
 has_own n numbers is = subst (λ (ns : List ℕ). Contains ns n) (sym is) (All-contains_itself (n ∷ []) 0 n (omega arith))

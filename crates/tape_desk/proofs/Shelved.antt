@@ -41,14 +41,17 @@ drain_marks who here drained.More = refl
 drain_marks who here (drained.Fault counts) = refl
 
 module _ {D : Type 0} (old new : View D) (who : ℕ) where
+  -- a submission adds the marks of its session
   pub submit_more : (first now : Drive) (nth : ℕ) (answer : Submitted) → Submits first now old new who nth answer
       → new.marks ≡ old.marks ++ map (mark who) (kinds_of_submit (length old.history) answer)
   submit_more first now nth answer s = s.marks ∙ ap (λ l. old.marks ++ l) (submit_marks who (length old.history) answer)
 
+  -- a turn of a session that waits adds the marks of that session
   pub turn_more : (most : ℕ) (before now : Drive) (ticket : ℕ) (answer : Turn) → Turns most before now old new who ticket answer
       → new.marks ≡ old.marks ++ map (mark who) (kinds_of_turn ticket answer)
   turn_more most before now ticket answer s = s.marks ∙ ap (λ l. old.marks ++ l) (turn_marks who ticket answer)
 
+  -- a turn of a session that drains adds the marks of that session
   pub drain_more : (most : ℕ) (before now : Drive) (answer : Drained) → DrainsOnce most before now old new who answer
       → new.marks ≡ old.marks ++ map (mark who) (kinds_of_drain (length old.history) answer)
   drain_more most before now answer s = s.marks ∙ ap (λ l. old.marks ++ l) (drain_marks who (length old.history) answer)
@@ -100,6 +103,7 @@ begun_keeps {D} drive v law is served = record {
 module _ {D : Type 0} (drive : Ghosts D) (law : LogsGoOn drive cartridges) (who : ℕ) (old new : View D)
     (kept : IsPromised drive old)
     (served : IsServed cartridges (seen drive new.fixed.first) (seen drive new.drive) new) where
+  -- after a submission all is promised as before
   pub submit_keeps : (nth : ℕ) (answer : Submitted) → CanSubmit old who nth
       → Submits (seen drive old.fixed.first) (seen drive new.drive) old new who nth answer → IsPromised drive new
   submit_keeps nth answer can s = record {
@@ -109,6 +113,7 @@ module _ {D : Type 0} (drive : Ghosts D) (law : LogsGoOn drive cartridges) (who 
     count = submitted_count old new kept.count (seen drive old.fixed.first) (seen drive new.drive) who nth answer s;
   }
 
+  -- after a turn of a session that waits all is promised as before
   pub turn_keeps : (ticket : ℕ) (answer : Turn) → phase who old.marks ≡ waits ticket
       → Turns drive.MOST (seen drive old.drive) (seen drive new.drive) old new who ticket answer → Moves drive old new
       → IsPromised drive new
@@ -119,6 +124,7 @@ module _ {D : Type 0} (drive : Ghosts D) (law : LogsGoOn drive cartridges) (who 
     count = s.replies.count ∙ kept.count ∙ sym (ap length s.history);
   }
 
+  -- after a turn of a session that drains all is promised as before
   pub drain_keeps : (answer : Drained) → phase who old.marks ≡ draining
       → DrainsOnce drive.MOST (seen drive old.drive) (seen drive new.drive) old new who answer → Moves drive old new
       → IsPromised drive new

@@ -20,9 +20,11 @@ module _ {D : Type 0} (who : ℕ) (p : PassView Mark (Fixed D)) (own : IsOwn who
   known : kinds_of who taken.marks ≡ kinds_of who p.seen
   known = same_kinds who p.numbers p.seen taken.marks own.own same
 
+  -- the phase that a pass has seen of its session is the volume's
   pub known_phase : (ph : Phase) → phase who p.seen ≡ ph → phase who v.marks ≡ ph
   known_phase ph was = ap (λ (u : View D). phase who u.marks) is ∙ ap (fold after idle) known ∙ was
 
+  -- a session whose pass has a call to place may submit it
   pub can_submit : (nth : ℕ) → CanPlace who nth p → p.fixed ≡ Some taken.fixed → CanSubmit v who nth
   can_submit nth can fixed = subst (λ (u : View D). CanSubmit u who nth) (sym is) record {
     free = ap (fold after idle) known ∙ can.free;
@@ -30,6 +32,7 @@ module _ {D : Type 0} (who : ℕ) (p : PassView Mark (Fixed D)) (own : IsOwn who
     more = subst (λ (o : Option (Fixed D)). IfSome o (λ f. nth < length (calls_of f.script who))) fixed can.more;
   }
 
+  -- what a pass knows that no call changes is what the volume has
   pub fixed_stays : (fixed : Fixed D) → p.fixed ≡ Some taken.fixed → fixed ≡ v.fixed → (q : PassView Mark (Fixed D))
       → q ≡ entered taken.marks p → q.fixed ≡ Some fixed
   fixed_stays fixed told stays q inside = ap (λ (r : PassView Mark (Fixed D)). r.fixed) inside ∙ told
@@ -40,10 +43,12 @@ module _ {D : Type 0} (who : ℕ) (p : PassView Mark (Fixed D)) (own : IsOwn who
     grown : new ≡ taken.marks ++ map (mark who) kinds
     grown = more ∙ ap (λ (u : View D). u.marks ++ map (mark who) kinds) is
 
+    -- what was added to the marks is the session's own
     pub adds_own : AddsOwn (λ (m : Mark). m.who) q.numbers q.seen new
     adds_own = subst (λ (r : PassView Mark (Fixed D)). AddsOwn (λ (m : Mark). m.who) r.numbers r.seen new) (sym inside)
         (own_more who p.numbers taken.marks new kinds own.own grown)
 
+    -- the pass that leaves has gone on by the marks of its session
     pub has_gone_on : (r : PassView Mark (Fixed D)) → Sees (λ (m : Mark). m.who) p.seats p.numbers p.seen taken.marks
         → r ≡ left_at new q → GoesOn who kinds p r
     has_gone_on r sees left = subst (GoesOn who kinds p) (sym (left ∙ ap (left_at new) inside)) record {

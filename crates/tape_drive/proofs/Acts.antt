@@ -128,6 +128,7 @@ module _ (at : Place) (x : Item) (held : Cartridge) where
   rose : held.vcr < 2 ^ 64 - 1 → (image : Cartridge) → image.vcr ≡ (with_item at x held).vcr → VcrRose held image
   rose below image is = record { by_one = is ∙ new_vcr; in_range = omega (arith, is ∙ new_vcr) }
 
+  -- an item that is put at a place is written there
   pub written : held.vcr < 2 ^ 64 - 1 → IsWritten at.part at.pos x held (with_item at x held)
   written below = record { items = new_items; vcr = rose below (with_item at x held) refl; rest = rest_with at.part (take at.pos (items_of at.part held) ++ x ∷ []) (held.vcr + 1) held }
 
@@ -153,6 +154,7 @@ module _ (at : Place) (x : Item) (held : Cartridge) where
           (λ (torn : x ≡ item.Torn). inl (inr (e ∙ new_items ∙ ap (λ (z : Item). take at.pos (items_of at.part held) ++ z ∷ []) torn)))
           which
 
+-- a Torn that is put at a place is what a failed write leaves
 pub broken : (at : Place) (held : Cartridge) → held.vcr < 2 ^ 64 - 1 → IsBroken at.part at.pos held (with_item at item.Torn held)
 broken at held below = let w = written at item.Torn held below in record { items = inr (inr w.items, w.vcr); rest = w.rest }
 
@@ -165,6 +167,7 @@ pub noted : (p : Part) (note : Note) (c : Cartridge) → IsNoted p note c (with_
 noted Ip note c = record { ip = refl; dp = refl; vcr = refl; other_note = refl; written = refl }
 noted Dp note c = record { ip = refl; dp = refl; vcr = refl; other_note = refl; written = refl }
 
+-- what a crash leaves while an attribute is written is that of before or the new one
 pub within_note : (p : Part) (note old : Note) (held before image : Cartridge) → During (Noted p old) (with_note p note held) before image → WithinNote p note before image
 within_note p note old held before image (inl same) = inl same
 within_note p note old held before image (inr n) = inr (record { ip = n.ip; dp = n.dp; vcr = n.vcr; other_note = n.other_note; written = n.written ∙ (noted p note held).written })

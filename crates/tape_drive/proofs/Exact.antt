@@ -22,6 +22,7 @@ pub record IsPast (held : Cartridge) (es : List DoneCommand) (image : Cartridge)
   pub dp : Stood Dp held.dp es image.dp
   pub state : HasState held image
 
+-- of an image that two cuts give, each partition has stood so
 pub gives_past : (held : Cartridge) (es : List DoneCommand) (image : Cartridge) → Gives held es image → IsPast held es image
 gives_past held es image h =
     let ip = h.0 in
@@ -42,6 +43,7 @@ same_cartridge c d ip dp vcr n m =
     ∙ ap (λ (k : Note). reads_as d.ip d.dp d.vcr k c.note_dp) n
     ∙ ap (λ (k : Note). reads_as d.ip d.dp d.vcr d.note_ip k) m
 
+-- an image of which each partition has stood so is one that two cuts give
 pub past_gives : (held : Cartridge) (es : List DoneCommand) (image : Cartridge) → IsPast held es image → Gives held es image
 past_gives held es image past =
     let ip = image_from Ip held.ip es image.ip past.ip in
@@ -59,6 +61,7 @@ undone_ip (Noted Ip n) c = refl
 undone_ip (Noted Dp n) c = refl
 undone_ip Settled c = refl
 
+-- undoing an act undoes it in the data partition
 pub undone_dp : (act : Act) (c : Cartridge) → (undo act c).dp ≡ undone Dp act c.dp
 undone_dp (Put Ip gone failed) c = refl
 undone_dp (Put Dp gone failed) c = refl
@@ -134,6 +137,7 @@ left_by (Noted Dp n) held es image ip dp state ih = (
 )
 left_by Settled held es image ip dp state ih = (state, (image, ih image (record { ip = ip; dp = dp; state = state }), refl))
 
+-- an image of which each partition has stood so is one that a crash may leave
 pub past_left : (held : Cartridge) (es : List DoneCommand) (image : Cartridge) → IsPast held es image → Leaves held es image
 past_left held [] image past = same_cartridge image held past.ip past.dp past.state.vcr past.state.note_ip past.state.note_dp
 past_left held (e ∷ es) image past = left_by e.act held es image past.ip past.dp past.state (λ (c : Cartridge) (h : IsPast (undo e.act held) es c). past_left (undo e.act held) es c h)
@@ -193,6 +197,7 @@ put_same : (failed : Bool) (part : Part) (gone : List Item) (held : Cartridge) (
 put_same true part gone held es number before image settles was is past = inr (tt, subst (λ (c : Cartridge). WasPast (undo (Put part gone true) held) es c) (sym is) was)
 put_same false part gone held es number before image settles was is past = inl (past settles)
 
+-- within a write each partition of an image has stood so, or had before it failed
 pub was_put : (part : Part) (gone : List Item) (failed : Bool) (held : Cartridge) (es : List DoneCommand) (number : ℕ) (before image : Cartridge)
     → Settles (Put part gone failed) held image → WasPast (undo (Put part gone failed) held) es before → DuringPut part held before image
     → IsPast held (record { number = number; act = Put part gone failed } ∷ es) image ⊎ (IsFailure (Put part gone failed) × WasPast (undo (Put part gone failed) held) es image)
@@ -264,6 +269,7 @@ was_by number Settled held es before image settles was during = inl (record {
   state = settles;
 })
 
+-- of an image that a crash may leave, each partition has stood so, or had before failures
 pub left_was : (held : Cartridge) (es : List DoneCommand) (image : Cartridge) → Leaves held es image → WasPast held es image
 left_was held [] image is = subst (λ (c : Cartridge). IsPast held [] c) (sym is) (now_past held [])
 left_was held (e ∷ es) image left = was_by e.number e.act held es left.1.0 image left.0 (left_was (undo e.act held) es left.1.0 left.1.1) left.1.2
@@ -278,16 +284,19 @@ failed_left Flushed held es image fail left = absurd fail
 failed_left (Noted part n) held es image fail left = absurd fail
 failed_left Settled held es image fail left = absurd fail
 
+-- what two cuts give, or gave before failed writes, a crash may leave
 pub gave_left : (held : Cartridge) (es : List DoneCommand) (image : Cartridge) → Gave held es image → Leaves held es image
 gave_left held [] image gave = past_left held [] image (gives_past held [] image gave)
 gave_left held (e ∷ es) image (inl gives) = past_left held (e ∷ es) image (gives_past held (e ∷ es) image gives)
 gave_left held (e ∷ es) image (inr earlier) = failed_left e.act held es image earlier.0 (gave_left (undo e.act held) es image earlier.1)
 
+-- an image whose partitions have stood so, or had before failures, two cuts give or gave
 pub was_gave : (held : Cartridge) (es : List DoneCommand) (image : Cartridge) → WasPast held es image → Gave held es image
 was_gave held [] image past = past_gives held [] image past
 was_gave held (e ∷ es) image (inl past) = inl (past_gives held (e ∷ es) image past)
 was_gave held (e ∷ es) image (inr earlier) = inr (earlier.0, was_gave (undo e.act held) es image earlier.1)
 
+-- what a crash may leave, two cuts give, or gave before failed writes
 pub left_gave : (held : Cartridge) (es : List DoneCommand) (image : Cartridge) → Leaves held es image → Gave held es image
 left_gave held es image left = was_gave held es image (left_was held es image left)
 

@@ -57,9 +57,11 @@ more_reads le reads = record {
 }
 
 module _ {D : Type 0} (drive : Ghosts D) where
+  -- where no command is done, the drive was only looked at
   pub no_looks : (d : D) → drive.commands d ≤ 2 ^ 64 - 1 → Looks drive 0 d d
   no_looks d most = record { held = refl; limits = refl; reads = no_reads (drive.commands d) (drive.leaves d) (drive.left_since d) most }
 
+  -- one command that leaves all as it was only looks
   pub one_look : (most : ℕ) (a b : D)
       → ((t : ℕ) (image : Cartridge) → t ≤ drive.commands a → drive.leaves a image → drive.left_since a t image)
       → drive.held b ≡ drive.held a → drive.limits b ≡ drive.limits a → Counted most (drive.commands a) (drive.commands b)
@@ -68,6 +70,7 @@ module _ {D : Type 0} (drive : Ghosts D) where
   one_look most a b counts_now held limits counted crashes =
       record { held = held; limits = limits; reads = one_read counts_now counted crashes }
 
+  -- commands that only look, one behind the other, only look
   pub then_looks : (m n : ℕ) (a b c : D) → Looks drive m a b → Looks drive n b c → Looks drive (m + n) a c
   then_looks m n a b c first second = record {
     held = second.held ∙ first.held;
@@ -75,5 +78,6 @@ module _ {D : Type 0} (drive : Ghosts D) where
     reads = then_reads first.reads second.reads;
   }
 
+  -- what looks with so many commands looks with more at most
   pub more_looks : (m n : ℕ) (a b : D) → m ≤ n → Looks drive m a b → Looks drive n a b
   more_looks m n a b le looks = record { held = looks.held; limits = looks.limits; reads = more_reads le looks.reads }

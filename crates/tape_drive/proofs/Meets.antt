@@ -102,6 +102,7 @@ unbroken_at at c = record { items = inl (refl, inl refl); rest = record { other_
 
 -- a write or a mark
 module _ (T E : Type 0) (kind : Cmd) (at : Place) (x : Item) (old new : View) (sane : IsSane old) where
+  -- a write keeps what the trait asks of it
   pub put_meets : (r : Result T E) → RanPut r kind at x old new → Meets r (WithinWrite at.part at.pos x old.held) old new
   put_meets (Ok t) ran =
       let below : old.held.vcr < 2 ^ 64 - 1 = not_below (λ (le : 2 ^ 64 - 1 ≤ old.held.vcr). ran.0 (inr le)) in
@@ -122,6 +123,7 @@ module _ (T E : Type 0) (kind : Cmd) (at : Place) (x : Item) (old new : View) (s
       subst (λ (v : View). Meets {T = T} {E = E} (Err e) (WithinWrite at.part at.pos x old.held) old v) (sym ran.2)
       (meets_starved T E (WithinWrite at.part at.pos x old.held) old sane e kind (write_same at.part at.pos x old.held))
 
+  -- a write leaves the cartridge as the trait says
   pub put_told : (r : Result T E) → RanPut r kind at x old new → AfterWrite r at.part at.pos x old.held new.held
   put_told (Ok t) ran =
       let below : old.held.vcr < 2 ^ 64 - 1 = omega (arith, (λ (le : 2 ^ 64 - 1 ≤ old.held.vcr). ran.0 (inr le))) in
@@ -137,12 +139,14 @@ locate_meets T E (Ok t) at old new sane ran =
 locate_meets T E (Err e) at old new sane ran =
     subst (λ (v : View). Meets {T = T} {E = E} (Err e) NothingNew old v) (sym ran.1) (meets_failed T E NothingNew old sane e cmd.Locate (λ image. refl))
 
+-- a read keeps what the trait asks of it
 pub read_meets : (E : Type 0) (r : Result Got E) (at : Place) (buf : List ℕ) (old new : View) → IsSane old → RanRead r at buf old new → Meets r NothingNew old new
 read_meets E (Ok t) at buf old new sane ran =
     subst (λ (v : View). Meets {T = Got} {E = E} (Ok t) NothingNew old v) (sym ran.2) (meets_still Got E NothingNew old sane t cmd.Read (Some (after_read t at)) (λ image. refl))
 read_meets E (Err e) at buf old new sane ran =
     subst (λ (v : View). Meets {T = Got} {E = E} (Err e) NothingNew old v) (sym ran.1) (meets_failed Got E NothingNew old sane e cmd.Read (λ image. refl))
 
+-- a read leaves the cartridge as it was
 pub read_held : (E : Type 0) (r : Result Got E) (at : Place) (buf : List ℕ) (old new : View) → RanRead r at buf old new → new.held ≡ old.held
 read_held E (Ok t) at buf old new ran = ap (λ (v : View). v.held) ran.2
 read_held E (Err e) at buf old new ran = ap (λ (v : View). v.held) ran.1
@@ -184,6 +188,7 @@ ran_settles T E (Ok t) kind act held old new ran =
     subst (λ (v : View). (image : Cartridge) → Leaves v.held v.acts image → Settles act v.held image) (sym ran.1) (λ image h. h.0)
 ran_settles T E (Err e) kind act held old new ran = tt
 
+-- after a write that succeeded every image has the counter and attributes as they read
 pub put_settles : (T E : Type 0) (r : Result T E) (kind : Cmd) (at : Place) (x : Item) (old new : View) → RanPut r kind at x old new
     → OnOk r ((image : Cartridge) → Leaves new.held new.acts image → HasState new.held image)
 put_settles T E (Ok t) kind at x old new ran =

@@ -104,11 +104,13 @@ gave_within count held es t image numbered gave = (
       (within_at gave.newer gave.entry gave.older held t image gave.began gave.left),
 )
 
+-- what a crash may have left since a command is what choices give or gave
 pub since_gave : (count : ℕ) (held : Cartridge) (es : List DoneCommand) (t : ℕ) (image : Cartridge)
     → LeftSince count held es t image → GaveSince held es t image
 since_gave count held es t image (inl now) = inl (left_gave held es image now)
 since_gave count held es t image (inr past) = inr (within_gave held es t image past.1)
 
+-- what choices give or gave is what a crash may have left since a command
 pub gave_since : (count : ℕ) (held : Cartridge) (es : List DoneCommand) (t : ℕ) (image : Cartridge) → Numbered count es
     → GaveSince held es t image → LeftSince count held es t image
 gave_since count held es t image numbered (inl now) = inl (gave_left held es image now)

@@ -24,6 +24,7 @@ numbered_later : (count count2 : ℕ) (es : List DoneCommand) → count2 ≡ min
 numbered_later count count2 [] is n = tt
 numbered_later count count2 (e ∷ es) is n = ((λ lt. omega (arith, n.0 (omega arith))), numbered_later count count2 es is n.1)
 
+-- a sound record is so with one command more
 pub sound_later : (limits : Limits) (count count2 : ℕ) (held : Cartridge) (es : List DoneCommand) → count2 ≡ min (count + 1) (2 ^ 64 - 1) → IsSound limits count held es → IsSound limits count2 held es
 sound_later limits count count2 held es is sound = record { range = sound.range; sizes = sound.sizes; numbers = numbered_later count count2 es is sound.numbers }
 
@@ -54,6 +55,7 @@ back_items pos x xs = ap (λ (l : List Item). l ++ drop pos xs) (front_of (take 
 less_one : (n : ℕ) → n + 1 - 1 ≡ n
 less_one n = omega arith
 
+-- a write that is undone leaves what was
 pub undo_put : (at : Place) (x : Item) (broke : Bool) (c : Cartridge) → undo (Put at.part (drop at.pos (items_of at.part c)) broke) (with_item at x c) ≡ c
 undo_put at x broke c = undo_at at.part at.pos x broke c
   where
@@ -72,6 +74,7 @@ fits_items limit pos x xs room size fits = record {
   each = All-append IsItem (take pos xs) (x ∷ []) (All-take IsItem pos xs fits.each) (all_one x size);
 }
 
+-- a write within the capacity leaves the cartridge within its limits
 pub fits_put : (limits : Limits) (at : Place) (x : Item) (c : Cartridge) → at.pos < capacity at.part limits → IsItem x → FitsLimits limits c → FitsLimits limits (with_item at x c)
 fits_put limits at x c room size fits = fits_at limits at.part at.pos x c room size fits
   where
@@ -91,10 +94,12 @@ pub note_placed : (p : Part) (note before : Note) (ip dp : List Item) (vcr : ℕ
 note_placed Ip note before ip dp vcr n m n2 m2 is = (ap (λ (k : Note). reads_as ip dp vcr k m2) is.1 ∙ ap (λ (k : Note). reads_as ip dp vcr note k) is.2, is.0)
 note_placed Dp note before ip dp vcr n m n2 m2 is = (ap (λ (k : Note). reads_as ip dp vcr k m2) is.1 ∙ ap (λ (k : Note). reads_as ip dp vcr n k) is.2, is.0)
 
+-- an attribute whose writing is undone is as it was
 pub undo_note : (p : Part) (note : Note) (c : Cartridge) → undo (Noted p (note_of p c)) (with_note p note c) ≡ c
 undo_note Ip note c = refl
 undo_note Dp note c = refl
 
+-- writing an attribute leaves the cartridge within its limits
 pub fits_note : (limits : Limits) (p : Part) (note : Note) (c : Cartridge) → FitsLimits limits c → FitsLimits limits (with_note p note c)
 fits_note limits Ip note c fits = record { ip = fits.ip; dp = fits.dp }
 fits_note limits Dp note c fits = record { ip = fits.ip; dp = fits.dp }

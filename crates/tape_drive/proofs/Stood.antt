@@ -18,6 +18,7 @@ abbrev pub OwnStage : Bool → List Item → List Item → Type 0 → Type 0
 OwnStage true items image earlier = IsStage items image ⊎ earlier
 OwnStage false items image earlier = earlier
 
+-- what an act leaves that a partition may be found as
 abbrev pub StoodBy : Part → Act → List Item → List Item → Type 0 → Type 0
 StoodBy part (Put p gone failed) items image earlier = OwnStage (is_same part p) items image earlier
 StoodBy part Flushed items image earlier = image ≡ items
@@ -40,6 +41,7 @@ now_by part Flushed items E all = refl
 now_by part (Noted p before) items E all = all items
 now_by part Settled items E all = all items
 
+-- what reads now is among what stood
 pub stood_now : (part : Part) (items : List Item) (es : List DoneCommand) → Stood part items es items
 stood_now part items [] = refl
 stood_now part items (e ∷ es) = now_by part e.act items (λ (l x : List Item). Stood part l es x) (λ (l : List Item). stood_now part l es)
@@ -54,6 +56,7 @@ none_by part Flushed n m items earlier ih le = refl
 none_by part (Noted p before) n m items earlier ih le = ih le
 none_by part Settled n m items earlier ih le = ih le
 
+-- behind the last moment nothing is written next
 pub none_after : (part : Part) (items : List Item) (es : List DoneCommand) (m : ℕ) → moments es ≤ m → next_put part items es m ≡ None
 none_after part items [] m le = refl
 none_after part items (e ∷ es) m le =
@@ -170,6 +173,7 @@ image_by part items s es nx false plain torn = plain
 image_by part items s es None true plain torn = plain
 image_by part items s es (Some pos) true plain torn = torn pos refl
 
+-- an image by a cut is among what stood, with or without a Torn
 pub image_in : (part : Part) (items : List Item) (es : List DoneCommand) (m : ℕ) (t : Bool) → m < moments es → Stood part items es (image_of part items es m t)
 image_in part items es m t lt = image_by part items (stood part items es m) es (next_put part items es m) t (stood_in part items es m lt) (λ (pos : ℕ) (is : next_put part items es m ≡ Some pos). torn_in part items es m pos lt is)
 

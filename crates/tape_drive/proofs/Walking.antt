@@ -73,6 +73,7 @@ reaches_by part m n Flushed old new s earlier counted none lt steps = (sym steps
 reaches_by part m n (Noted p before) old new s earlier counted none lt steps = absurd steps
 reaches_by part m n Settled old new s earlier counted none lt steps = absurd steps
 
+-- a step back that reaches the moment finds what stood then
 pub reaches : (part : Part) (m : ℕ) (e : DoneCommand) (es : List DoneCommand) (old new : Walk) → old.count ≡ moments (e ∷ es) → m < old.count → Steps true part m e.act old new → Reaches part m e es old new
 reaches part m e es old new counted lt steps =
     let l = undone part e.act old.items.items in
@@ -99,6 +100,7 @@ goes_by part m n Settled old new f g counted lt steps = (
   ap (λ (o : Option ℕ). earlier_or (g old.items.items) o) (sym steps.next) ∙ ap (λ (l : List Item). earlier_or (g l) new.next) (sym steps.items),
 )
 
+-- a step back that does not reach the moment goes on to older acts
 pub goes_on : (part : Part) (m : ℕ) (e : DoneCommand) (es : List DoneCommand) (old new : Walk) → old.count ≡ moments (e ∷ es) → m < old.count → Steps false part m e.act old new → GoesOn part m e es old new
 goes_on part m e es old new counted lt steps =
     let is = goes_by part m (moments es) e.act old new (λ (l : List Item). stood part l es m) (λ (l : List Item). next_put part l es m) counted lt steps in

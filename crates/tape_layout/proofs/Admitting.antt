@@ -76,11 +76,13 @@ index_drafted p size part place doc old new size_is place_is new_is =
 
 -- ---- what the code has found by the time it admits
 
+-- bytes were admitted to a partition: they fit, and their ops are the puts of their blocks
 pub record HasData (p : Plan) (part : Part) (bytes : List ℕ) (ops : List Op) : Type 0 where
   pub fits : end_of part p.ends + div_ceil (length bytes) p.block_size ≤ data_limit (capacity part p.limits)
   pub is_ready : IsReady p (with_end part (end_of part p.ends + div_ceil (length bytes) p.block_size) p.ends) ops
   pub same : ops ≡ puts p.block_size part (end_of part p.ends) bytes
 
+-- where bytes fit below the limit of data, the plan that grew by their puts has them
 pub has_data : (p view : Plan) (part : Part) (bytes : List ℕ) (n cap limit : ℕ) (place : Place) (start : Ends) (old new : Drafted)
     → view ≡ p → CanBe view.limits view.block_size view.ends → place ≡ record { part = part; pos = end_of part p.ends }
     → n ≡ div_ceil (length bytes) view.block_size → cap ≡ capacity part p.limits → limit ≡ data_limit cap → place.pos + n ≤ limit
@@ -104,11 +106,13 @@ has_data p view part bytes n cap limit place start old new view_is can place_is 
     drafted : new.ops ≡ puts p.block_size part (end_of part p.ends) bytes
     drafted = data_drafted p view.block_size part place bytes start old new size_is place_is old_is new_is
 
+-- an index was admitted to a partition: it fits, and its ops are those of its construct
 pub record HasIndex (p : Plan) (part : Part) (doc : List ℕ) (first ops : List Op) : Type 0 where
   pub fits : end_of part p.ends + 2 + div_ceil (length doc) p.block_size ≤ capacity part p.limits
   pub is_ready : IsReady p (with_end part (end_of part p.ends + 2 + div_ceil (length doc) p.block_size) p.ends) ops
   pub same : ops ≡ first ++ construct p.block_size part (end_of part p.ends) doc
 
+-- where an index fits, the plan that grew by its construct has it
 pub has_index : (p view : Plan) (part : Part) (doc : List ℕ) (n cap : ℕ) (place : Place) (old new : Drafted)
     → view ≡ p → CanBe view.limits view.block_size view.ends → place ≡ record { part = part; pos = end_of part p.ends }
     → n ≡ div_ceil (length doc) view.block_size → cap ≡ capacity part p.limits → place.pos + 2 + n ≤ cap

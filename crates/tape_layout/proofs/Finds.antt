@@ -99,12 +99,14 @@ point_of : (at : Place) (ops : List Op) (e : Ends) (items : List Standing) (k : 
 point_of at ops e items k same h parts =
     subst (λ l. IsPoint at l k) same (parts (subst (λ l. IsPartitionedBy (λ (s : Standing). leb (end_of at.part s.ends) at.pos) l) (sym same) (parted at ops e h)))
 
+-- the op found at a place holds the bytes that the list of ops holds there
 pub found_some : (at : Place) (ops : List Op) (e : Ends) (items : List Standing) (k : ℕ) (s : Standing) (held : Option (List ℕ)) → items ≡ counted e ops → AreNext e ops
     → (IsPartitionedBy (λ (s : Standing). leb (end_of at.part s.ends) at.pos) items → IsPoint at items k) → k < length items → s ≡ get_or items k s → held ≡ held_by at s.op → held ≡ held_in at ops
 found_some at ops e items k s held same h parts lt is holds =
     let item : slice_get (counted e ops) k ≡ Some s = ap (λ l. slice_get l k) (sym same) ∙ slice_get-get_or items k s lt ∙ ap Some (sym is) in
     holds ∙ sym (found at ops e k h (point_of at ops e items k same h parts) ∙ ap (held_at at) item)
 
+-- where the search ends behind all ops, no op holds bytes at the place
 pub found_none : (at : Place) (ops : List Op) (e : Ends) (items : List Standing) (k : ℕ) → items ≡ counted e ops → AreNext e ops
     → (IsPartitionedBy (λ (s : Standing). leb (end_of at.part s.ends) at.pos) items → IsPoint at items k) → length items ≤ k → None ≡ held_in at ops
 found_none at ops e items k same h parts le =

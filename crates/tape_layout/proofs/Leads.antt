@@ -22,10 +22,12 @@ use Rattle.tape_layout.proofs.Lists.{after_append, counted_append}
 
 -- ---- ends
 
+-- the end that was set on a partition is its end
 pub end_is : (part : Part) (n : ℕ) (e : Ends) → end_of part (with_end part n e) ≡ n
 end_is Ip n e = refl
 end_is Dp n e = refl
 
+-- ends whose end on a partition is set to what it was stay as they were
 pub end_same : (part : Part) (n : ℕ) (e : Ends) → end_of part e ≡ n → e ≡ with_end part n e
 end_same Ip n e is = ap (λ k. record { ip = k; dp = e.dp }) is
 end_same Dp n e is = ap (λ k. record { ip = e.ip; dp = k }) is
@@ -34,6 +36,7 @@ end_twice : (part : Part) (n m : ℕ) (e : Ends) → with_end part n (with_end p
 end_twice Ip n m e = refl
 end_twice Dp n m e = refl
 
+-- an end that is later, and within the capacity, can be one too
 pub can_end : (limits : Limits) (size n : ℕ) (part : Part) (e : Ends) → CanBe limits size e → end_of part e ≤ n → n ≤ capacity part limits → CanBe limits size (with_end part n e)
 can_end limits size n Ip e h low high = record { limits_are = h.limits_are; some = h.some; most = h.most; ip = record { low = omega (arith, h.ip.low); high = high }; dp = h.dp }
 can_end limits size n Dp e h low high = record { limits_are = h.limits_are; some = h.some; most = h.most; ip = h.ip; dp = record { low = omega (arith, h.dp.low); high = high } }
@@ -44,6 +47,7 @@ next_append : (e : Ends) (xs ys : List Op) → AreNext e xs → AreNext (after_o
 next_append e [] ys h k = k
 next_append e (x ∷ xs) ys h k = (h.0, next_append (after_op e x) xs ys h.1 k)
 
+-- ops that lead from ends to others, and more that lead on, lead all the way
 pub lead_append : (limits : Limits) (size : ℕ) (from mid to : Ends) (xs ys : List Op) → Lead limits size from mid xs → Lead limits size mid to ys → Lead limits size from to (xs ++ ys)
 lead_append limits size from mid to xs ys h k = record {
   next = next_append from xs ys h.next (subst (λ e. AreNext e ys) (sym h.ends_are) k.next);
@@ -99,9 +103,11 @@ all_one P x h (suc k) d lt = absurd (omega arith)
 mark_leads : (limits : Limits) (size pos : ℕ) (part : Part) (e : Ends) → end_of part e ≡ pos → pos < capacity part limits → Lead limits size e (with_end part (pos + 1) e) (Mark (record { part = part; pos = pos }) ∷ [])
 mark_leads limits size pos part e is lt = record { next = (sym is, tt); ends_are = refl; room = all_one (HasRoom limits size) (Mark (record { part = part; pos = pos })) lt }
 
+-- a flush at the end of a partition leads nowhere else
 pub flush_leads : (limits : Limits) (size pos : ℕ) (part : Part) (e : Ends) → end_of part e ≡ pos → pos ≤ capacity part limits → Lead limits size e e (Flush (record { part = part; pos = pos }) ∷ [])
 flush_leads limits size pos part e is le = record { next = (sym is, tt); ends_are = refl; room = all_one (HasRoom limits size) (Flush (record { part = part; pos = pos })) le }
 
+-- the ops of an index lead to the end behind its blocks and two marks
 pub index_leads : (limits : Limits) (size : ℕ) (part : Part) (e : Ends) (pos : ℕ) (doc : List ℕ) → 1 ≤ size → end_of part e ≡ pos → pos + 2 + div_ceil (length doc) size ≤ capacity part limits
     → Lead limits size e (with_end part (pos + 2 + div_ceil (length doc) size) e) (construct size part pos doc)
 index_leads limits size part e pos doc some is fits =
@@ -137,6 +143,7 @@ index_leads limits size part e pos doc some is fits =
 
 -- ---- what is kept
 
+-- where no op stands, what stands is rightly kept
 pub none_kept : (limits : Limits) (size : ℕ) (ends : Ends) (items : List Standing) → CanBe limits size ends → items ≡ [] → AreKept limits size ends items
 none_kept limits size ends items can none = subst (AreKept limits size ends) (sym none) record {
   standing = record { from = ends; lead = record { next = tt; ends_are = refl; room = λ k d lt. absurd (omega arith) }; can_be = can };
@@ -161,6 +168,7 @@ more_kept limits size ends to items more news h lead can kept is = subst (AreKep
     all : map (λ (s : Standing). s.op) (items ++ more) ≡ map (λ (s : Standing). s.op) items ++ map (λ (s : Standing). s.op) more
     all = map-append (λ (s : Standing). s.op) items more
 
+-- once the first op is gone, the others are rightly kept
 pub less_kept : (limits : Limits) (size : ℕ) (ends : Ends) (items : List Standing) → AreKept limits size ends items → AreKept limits size ends (drop 1 items)
 less_kept limits size ends [] h = h
 less_kept limits size ends (s ∷ items) h = record {

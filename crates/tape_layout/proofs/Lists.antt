@@ -12,10 +12,12 @@ use Rattle.tape_layout.specs.declared.standing.Standing.{Standing}
 use Rattle.tape_layout.specs.Ops.{after_op, after_ops, counted}
 use Rattle.tape_layout.specs.Plans.{IsDraft}
 
+-- the ends after two lists of ops are those after the second from those after the first
 pub after_append : (e : Ends) (xs ys : List Op) → after_ops e (xs ++ ys) ≡ after_ops (after_ops e xs) ys
 after_append e [] ys = refl
 after_append e (x ∷ xs) ys = after_append (after_op e x) xs ys
 
+-- of two lists of ops, each op of the second is counted from the ends after the first
 pub counted_append : (e : Ends) (xs ys : List Op) → counted e (xs ++ ys) ≡ counted e xs ++ counted (after_ops e xs) ys
 counted_append e [] ys = refl
 counted_append e (x ∷ xs) ys = ap (λ rest. record { op = x; ends = after_op e x } ∷ rest) (counted_append (after_op e x) xs ys)

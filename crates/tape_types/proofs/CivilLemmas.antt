@@ -29,6 +29,7 @@ second-parts secs = omega (arith, signed_arith, unsigned_abs-parts)
 pub day_not_before : (m : Moment) → days_from_civil (pos 0) 1 1 ≤ℤ day_number m.secs
 day_not_before m = let low = first_day in let first = m.not_before in omega (arith, signed_arith)
 
+-- the day of a moment is no later than the last of the year 9999
 pub day_not_after : (m : Moment) → day_number m.secs ≤ℤ days_from_civil (pos 9999) 12 31
 day_not_after m = let high = days_from_civil-max in let last = m.not_after in omega (arith, signed_arith)
 
@@ -43,6 +44,7 @@ civil_of_only m c h =
     same_civil (civil_of m) c (rw parts.0 (year_of-civil c.year c.month c.day h.date)) (rw parts.0 (month_of-civil c.year c.month c.day h.date)) (rw parts.0 (day_of-civil c.year c.month c.day h.date))
     (rw parts.1 (omega arith)) (rw parts.1 (omega arith)) (rw parts.1 (omega arith)) h.nanos
 
+-- a moment has no second date and time of day
 pub civil_once : (m : Moment) (c d : Civil) → IsCivil m c → IsCivil m d → c ≡ d
 civil_once m c d h k = sym (civil_of_only m c h) ∙ civil_of_only m d k
 
@@ -56,13 +58,16 @@ named m on =
       record { date = on.civil; hour = omega arith; minute = omega arith; second = omega arith; secs = omega (arith, signed_arith, on.is); nanos = refl },
     )
 
+-- each moment has a date and a time of day
 pub has_civil : (m : Moment) → (c : Civil) × IsCivil m c
 has_civil m = named m (date_on (day_number m.secs) (day_not_before m) (day_not_after m))
 
+-- the text of a moment is that of its date and time of day
 pub time_text_civil : (m : Moment) (c : Civil) → IsCivil m c → time_text m ≡ civil_text c
 unfolding time_text
 time_text_civil m c h = ap civil_text (civil_of_only m c h)
 
+-- the parts of a moment's date and time of day fit their places in the text
 pub civil-places : (m : Moment) (c : Civil) → IsCivil m c → HasPlaces c
 civil-places m c h =
     let hour = h.hour in
@@ -81,6 +86,7 @@ civil-places m c h =
       nanos = omega (arith, h.nanos);
     }
 
+-- moments with the same seconds and nanoseconds are one
 pub same_moment : (m n : Moment) → m.secs ≡ n.secs → m.nanos ≡ n.nanos → m ≡ n
 same_moment m n secs nanos =
     λ i. record {
@@ -102,6 +108,7 @@ shown_only m c places e =
     let same : c ≡ found.0 = civil_text_injective c found.0 places (civil-places m found.0 found.1) (e ∙ time_text_civil m found.0 found.1) in
     rw same found.1
 
+-- moments with the same text are one
 pub time_text_injective : (m n : Moment) → time_text m ≡ time_text n → m ≡ n
 time_text_injective m n e =
     let found = has_civil m in
@@ -111,6 +118,7 @@ time_text_injective m n e =
 pub not_shown : (text : List ℕ) (c : Civil) → text ≡ civil_text c → HasPlaces c → ((m : Moment) → ¬ IsCivil m c) → (m : Moment) → text ≡ time_text m → ⊥
 not_shown text c shows places none m e = none m (shown_only m c places (sym shows ∙ e))
 
+-- a text that shows no date and time of day is no moment's
 pub no_civil_text : (text : List ℕ) → ((c : Civil) → text ≡ civil_text c → ⊥) → (m : Moment) → text ≡ time_text m → ⊥
 no_civil_text text none m e =
     let found = has_civil m in
@@ -121,6 +129,7 @@ pub found_text : (text : List ℕ) (c : Civil) (found : Option Moment) → text 
 found_text text c None shows h = tt
 found_text text c (Some m) shows h = shows ∙ sym (time_text_civil m c h)
 
+-- where no moment has the date and time that a text shows, the text is no moment's
 pub missing_text : (text : List ℕ) (c : Civil) (found : Option Moment) → text ≡ civil_text c → HasPlaces c → IfNone found ((m : Moment) → ¬ IsCivil m c) → IfNone found ((m : Moment) → text ≢ time_text m)
 missing_text text c None shows places none = not_shown text c shows places none
 missing_text text c (Some m) shows places none = tt

@@ -16,12 +16,14 @@ use borrow.Author.Differences.{up, down}
 pub day_count-year_zero : day_count (pos 0) 1 1 ≡ 3_652_425
 day_count-year_zero = day_count-early (pos 0) 9999 1 1 refl (omega arith) (omega arith) (omega arith)
 
+-- the number of the first day of year 0
 pub first_day : days_from_civil (pos 0) 1 1 ≡ neg_ℤ (pos 719_528)
 first_day = omega (arith, signed_arith, days_from_civil-day_count, day_count-year_zero)
 
 year_in : (y : ℕ) → y ≤ 9999 → IsYear (pos y)
 year_in y h = (omega (arith, signed_arith), omega (arith, signed_arith))
 
+-- a date has no year after 9999
 pub year_bound : (y m d : ℕ) → IsCivilDate (pos y) m d → y ≤ 9999
 year_bound y m d h = let high = h.0.1 in omega (arith, signed_arith)
 
@@ -96,6 +98,7 @@ counted_to p n top passes fails end =
     let back : top + 1 - 1 ≡ top = omega arith in
     count_up p 1 n top passes fails (omega arith) ∙ back
 
+-- the year that is found for the day of a date is the date's
 pub year_of-civil : (y m d : ℕ) → IsCivilDate (pos y) m d → year_of (days_from_civil (pos y) m d) ≡ y
 unfolding year_of
 year_of-civil y m d h =
@@ -103,6 +106,7 @@ year_of-civil y m d h =
     (λ k low high. year_not_begun y m d k h high)
     (year_bound y m d h)
 
+-- the month that is found for the day of a date is the date's
 pub month_of-civil : (y m d : ℕ) → IsCivilDate (pos y) m d → month_of (days_from_civil (pos y) m d) ≡ m
 unfolding month_of
 month_of-civil y m d h =
@@ -111,6 +115,7 @@ month_of-civil y m d h =
     (λ k low high. month_not_begun y m d k h high)
     (omega (arith, h.1.1)))
 
+-- the day of the month that is found for the day of a date is the date's
 pub day_of-civil : (y m d : ℕ) → IsCivilDate (pos y) m d → day_of (days_from_civil (pos y) m d) ≡ d
 unfolding day_of
 day_of-civil y m d h =
@@ -171,6 +176,7 @@ pub record DateOn (day_number : ℤ) : Type 0 where
   pub civil : IsCivilDate (pos year) month day
   pub is : days_from_civil (pos year) month day ≡ day_number
 
+-- each day of the years 0 to 9999 has a date
 pub date_on : (day : ℤ) → days_from_civil (pos 0) 1 1 ≤ℤ day → day ≤ℤ days_from_civil (pos 9999) 12 31 → DateOn day
 date_on day first last =
     let low = first_day in
@@ -183,10 +189,12 @@ date_on day first last =
 pub day_not_early : (y m d : ℕ) → IsCivilDate (pos y) m d → days_from_civil (pos 0) 1 1 ≤ℤ days_from_civil (pos y) m d
 day_not_early y m d h = omega (arith, signed_arith, days_from_civil-day_count, from_january y 0 m d h (omega arith))
 
+-- the day of a date is no later than the last of the year 9999
 pub day_not_late : (y m d : ℕ) → IsCivilDate (pos y) m d → days_from_civil (pos y) m d ≤ℤ days_from_civil (pos 9999) 12 31
 day_not_late y m d h =
     omega (arith, signed_arith, days_from_civil-day_count, day_count_bounds (pos y) m d h, days_from_civil-max)
 
+-- a date on or after the first day of year 0 has no year below 0
 pub year_not_negative : (y : ℤ) (m d : ℕ) → IsCivilDate y m d → days_from_civil (pos 0) 1 1 ≤ℤ days_from_civil y m d → pos 0 ≤ℤ y
 year_not_negative y m d h first =
     by_lt_z y (pos 0)

@@ -8,6 +8,7 @@ use Rattle.std.proofs.Math.Seq.{append_snoc, get_or-append_seam}
 use Rattle.std.proofs.Math.Nat.{pow-suc}
 use Rattle.tape_types.specs.Times.{digits}
 
+-- a number in a fixed count of digits has that count of characters
 pub length-digits : (width n : ℕ) → length (digits width n) ≡ width
 length-digits zero n = refl
 length-digits (suc width) n = omega (arith, length-digits width (n / 10), length-append (digits width (n / 10)) ((48 + n % 10) ∷ []))
@@ -44,6 +45,7 @@ ten_up i (suc j) =
     let next : suc j + i ≡ suc (j + i) = omega arith in
     rw next (omega (arith, ten_up i j, pow-suc 10 (j + i)))
 
+-- a power of ten below the ninth is at most a hundred million
 pub ten_below_nine : (i : ℕ) → i < 9 → 10 ^ i ≤ 100000000
 ten_below_nine i h = let up = ten_up i (8 - i) in let same : 8 - i + i ≡ 8 = omega arith in rw same at up
 
@@ -74,10 +76,12 @@ digits_written text (suc at) number low high =
     let next : at + 1 ≡ suc at = omega arith in
     rw (back, drop-set text at (48 + number % 10) (omega arith), next) (append_snoc (digits at (number / 10)) (48 + number % 10) (drop (suc at) text))
 
+-- each character of a number's text is a digit
 pub all_digits : (text : List ℕ) (n i : ℕ) → i < length text → text ≡ digits (length text) n → is_ascii_digit (get_or text i 0) ≡ true
 all_digits text n i h e =
     subst (λ (t : List ℕ). is_ascii_digit (get_or t i 0) ≡ true) (sym e) (digit_at (length text) n i h)
 
+-- a decimal digit is one of ten bytes
 pub digit_bounds : (byte : ℕ) → is_ascii_digit byte ≡ true → (48 ≤ byte) × (byte < 58)
 digit_bounds byte e = (grind arith, grind arith)
 
@@ -87,6 +91,7 @@ digits_read text i value digit lt small e read =
     let next : i + 1 ≡ suc i = omega arith in
     take_more text i 0 lt ∙ rw (e, read, next) (sym (digits_more i value digit small))
 
+-- with one digit more, a number still fits its count of digits
 pub fits_more : (i value digit : ℕ) → digit < 10 → value < 10 ^ i → value * 10 + digit < 10 ^ (i + 1)
 fits_more i value digit small fits =
     let next : i + 1 ≡ suc i = omega arith in

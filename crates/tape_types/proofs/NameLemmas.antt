@@ -25,6 +25,7 @@ plain b h = record { ascii = grind (arith, nat_tests); no_slash = grind (arith, 
 all_plain : (name : List ℕ) → list_all is_plain name ≡ true → All IsPlain name
 all_plain name all = λ k d lt. plain _ (AllPass-from_list_all is_plain name all k d lt)
 
+-- a name of plain characters, not too long and without a point in front, has no fault
 pub common : (name : List ℕ) (first : ℕ) → slice_get name 0 ≡ Some first → (first ≡ 46 → ⊥) → length name ≤ longest_name → list_all is_plain name ≡ true → name_fault name ≡ None
 common [] first is other short all = absurd cc
 common (b ∷ rest) first is other short all =

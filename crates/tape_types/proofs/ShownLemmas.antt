@@ -37,6 +37,7 @@ numbers-shown text c e places =
 same_text : (text : List ℕ) (c : Civil) → text ≡ civil_text c → bytes_eq text (civil_text c) ≡ true
 same_text text c e = (bytes_eq-Decides text (civil_text c)).1 e
 
+-- a text that shows a date and time gives them if they are real ones, and else nothing
 pub civil_in-shown : (text : List ℕ) (c : Civil) (b : Bool) → text ≡ civil_text c → HasPlaces c → is_civil c ≡ b → civil_in text ≡ cond b (Some c) None
 unfolding civil_in
 civil_in-shown text c b e places is =
@@ -44,6 +45,7 @@ civil_in-shown text c b e places is =
     ∙ ap (λ (v : Bool). cond (v && is_civil c) (Some c) None) (same_text text c e)
     ∙ ap (λ (v : Bool). cond v (Some c) None) is
 
+-- a text that shows no date and time of day gives none
 pub civil_in-none : (text : List ℕ) → ((c : Civil) → text ≡ civil_text c → ⊥) → civil_in text ≡ None
 unfolding civil_in
 civil_in-none text none =

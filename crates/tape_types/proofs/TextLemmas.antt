@@ -25,6 +25,7 @@ civil_text-parts : (c : Civil) → HasParts (civil_text c) c
 unfolding civil_text
 civil_text-parts c = record { long = refl; marks = refl; year = refl; month = refl; day = refl; hour = refl; minute = refl; second = refl; nanos = refl }
 
+-- the text of a date and time of day has its numbers and signs at their places
 pub parts_of : (text : List ℕ) (c : Civil) → text ≡ civil_text c → HasParts text c
 parts_of text c e = subst (λ (t : List ℕ). HasParts t c) (sym e) (civil_text-parts c)
 
@@ -55,14 +56,17 @@ text_of text c h =
 pub digits_of : (part : List ℕ) (width n : ℕ) → length part ≡ width → part ≡ digits (length part) n → part ≡ digits width n
 digits_of part width n long e = subst (λ (k : ℕ). part ≡ digits k n) long e
 
+-- a part that shows no number in digits shows none of a fixed count of digits
 pub no_digits : (part : List ℕ) (width n : ℕ) → ((k : ℕ) → part ≡ digits (length part) k → ⊥) → part ≡ digits width n → ⊥
 no_digits part width n none e =
     let long : width ≡ length part = sym (length-digits width n) ∙ ap length (sym e) in
     none n (subst (λ (k : ℕ). part ≡ digits k n) long e)
 
+-- how long a part of a text of 30 characters is
 pub length-part : (text : List ℕ) (at end : ℕ) → length text ≡ 30 → at ≤ end → end ≤ 30 → length (slice_range text at end) ≡ end - at
 length-part text at end long low high = simp (length-take, length-drop) (omega arith)
 
+-- dates and times of day that agree in all their parts are one
 pub same_civil : (a b : Civil) → a.year ≡ b.year → a.month ≡ b.month → a.day ≡ b.day → a.hour ≡ b.hour → a.minute ≡ b.minute → a.second ≡ b.second → a.nanos ≡ b.nanos → a ≡ b
 same_civil a b year month day hour minute second nanos =
     λ i. record { year = year i; month = month i; day = day i; hour = hour i; minute = minute i; second = second i; nanos = nanos i }

@@ -54,6 +54,7 @@ module _ (letters : Letters) (t : FileTree) (good : IsGood t) (tape : Tape) wher
         );
   }
 
+  -- the nodes that a kept tree tells are those of the plain tree, in the order of the paths
   pub nodes_are : AreNodesOf (told_nodes letters t) (plain_of tape t)
   nodes_are = record {
     count = length-map (fin.entries t.nodes) tell ∙ sym (ap length (plain_entries tape t.nodes) ∙ length-map (fin.entries t.nodes) line);

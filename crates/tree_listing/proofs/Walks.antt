@@ -165,6 +165,7 @@ module _ (nodes : List told.Node) (order : AreInOrder nodes) (tree : Tree) (are 
     pub tells : Tells tree node e
     pub text : names ≡ names_text e.0
 
+  -- the text of a node's names is made from the text of the node before it
   pub next : (at : ℕ) (node : told.Node) (ends names : List ℕ) → IsAt nodes at node → AreWalked es at ends names → IsNext at node (next_names ends names node)
   next zero node ends names is walked =
       let e = there_too nodes es 0 node are.count is in

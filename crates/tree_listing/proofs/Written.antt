@@ -28,6 +28,7 @@ whole_list (b ∷ l) = ap (λ k. b ∷ k) (whole_list l)
 
 -- ---- what a sink holds
 
+-- what two writes one behind the other append is both texts
 pub appends_more : (a b c : Option (List ℕ)) (x y : List ℕ) → Appends a b x → Appends b c y → Appends a c (x ++ y)
 appends_more None b c x y p q = tt
 appends_more (Some k) None c x y p q = absurd p
@@ -154,6 +155,7 @@ module _ (nodes : List told.Node) (order : AreInOrder nodes) where
   pub none_written : (old : Option (List ℕ)) (tree : Tree) → IsStopped errors.NoMemory (fin.entries tree.nodes) old old
   none_written old tree = (0, appends_none old)
 
+  -- where a write of lines fails, a front of the lines of all nodes stands written
   pub write_failed : (at : ℕ) (old now new : Option (List ℕ)) (lines : Lines) (before faults : ℕ) → IsOnWay nodes at old now lines before faults
       → AppendsFront now new lines.text.items → (tree : Tree) → AreNodesOf nodes tree → IsStopped errors.Sink (fin.entries tree.nodes) old new
   write_failed at old now new lines before faults way front tree are =
@@ -182,12 +184,14 @@ module _ (tree : Tree) (generation : ℕ) (spot : Spot) where
       subst (Appends old new) (ap (λ l. held_text listed.passed ++ l) put ∙ sym (text_is old now held listed))
       (appends_more old now new (held_text listed.passed) rest listed.written more)
 
+  -- where the last write fails, a front of the whole listing stands written
   pub last_failed : (old now new : Option (List ℕ)) (held rest : List ℕ) → AreListed (fin.entries tree.nodes) (length (fin.entries tree.nodes)) old now held
       → rest ≡ held ++ generation_line generation spot → AppendsFront now new rest → AppendsFront old new text
   last_failed old now new held rest listed put front =
       front_written old now new (held_text listed.passed) rest [] text
       (text_is old now held listed ∙ ap (λ l. held_text listed.passed ++ l) (sym put) ∙ sym (whole_list (held_text listed.passed ++ rest))) listed.written front
 
+  -- what a stop in the middle of the tree leaves is a listing cut short
   pub cut_short : (e : ListErr) (old new : Option (List ℕ)) → IsStopped e (fin.entries tree.nodes) old new → IsCutShort e text tree old new
   cut_short errors.Sink old new stopped =
       let front = front_of [] (flat_map line_of (fin.entries tree.nodes)) (generation_line generation spot) stopped.0 in

@@ -34,6 +34,7 @@ module _ (S V K P A : RattleType) (p : rules.Ghosts P.Denot S.Denot V.Denot K.De
   )
 
 module _ (T M F : RattleType) (g : logged.Ghosts T.Denot M.Denot F.Denot) (s : IsSend T) where
+  -- a pass of the lock may go to another thread
   pub pass_send : IsSend (passes.the_row T M F g)
   pass_send = view_send _ _ _ _ _ (declared_send (declared (pass.struct T M F g) (pass.the_propositions T.Denot M.Denot F.Denot)) (search (seat_send, crosses, sendable) depth 60 fits 100000, tt))
 
@@ -41,5 +42,6 @@ module _ (T M F : RattleType) (g : logged.Ghosts T.Denot M.Denot F.Denot) (s : I
   board_sync = declared_sync (declared (boards.struct T M F g) (boards.the_propositions T.Denot M.Denot F.Denot _ _ _ _ _ _ _ _ _ _ _))
       (search (table_sync, crosses, sendable) depth 60 fits 100000, (search (crosses, sendable) depth 60 fits 100000, (search (crosses, sendable) depth 60 fits 100000, tt)))
 
+  -- the lock may be shared with another thread
   pub lock_sync : IsSync (locks.the_row T M F g)
   lock_sync = view_sync _ _ _ _ _ (declared_sync (declared (lock.struct T M F g) (lock.the_propositions T.Denot M.Denot F.Denot)) (search (board_sync, crosses, sendable) depth 60 fits 100000, tt))

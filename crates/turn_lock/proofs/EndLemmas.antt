@@ -26,6 +26,7 @@ module _ {T M F : Type 0} (history : T → List M) (fixed : T → F) (names : M 
   abbrev Rule : State (Option T) V → Type 0
   Rule = IsKept history fixed names seats f
 
+  -- a lock begins by the rule: with all numbers, and its state home
   pub opens : (count : ℕ) (x : T) → seats < 2 ^ 16 → fixed x ≡ f → count ≡ length (history x) → Rule (opening (0 ∷ 0 ∷ count ∷ []) (Some x ∷ []) (calm seats (numbers_to seats) (history x) f))
   opens count x small fix long = record {
     ticket = 0;
@@ -85,6 +86,7 @@ module _ {T M F : Type 0} (history : T → List M) (fixed : T → F) (names : M 
         h.2 ∙ sees_whole names seats v.numbers v.seen k.whole (has_all s k id v at all still.none_joined) (t.sees still.some_number),
       )
 
+  -- the one pass that has all numbers knows the whole history of the lock's state
   pub closed_state : (id : ℕ) (m : Me (Option T) V) (words : List ℕ) (xs : List (Option T)) (slot : Option T) (y : T) → IsCalm m → length m.0.numbers ≡ m.0.seats → Final (Seen Rule id m.0) words xs → get_elem? xs 0 ≡ some slot → slot ≡ Some y
       → (m.0.fixed ≡ Some (fixed y)) × (history y ≡ m.0.seen)
   closed_state id m words xs slot y still all last there is = let r = closed id m words xs slot still all last there in let same : r.0 ≡ y = same_Some r.0 y (sym r.1 ∙ is) in subst (λ (z : T). (m.0.fixed ≡ Some (fixed z)) × (history z ≡ m.0.seen)) same (r.2, r.3)

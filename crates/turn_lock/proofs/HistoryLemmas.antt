@@ -37,12 +37,15 @@ module _ {M : Type 0} where
   same_rest (x ∷ xs) a b e = same_rest xs a b (cons_parts x x (xs ++ a) (xs ++ b) e).1
 
 module _ {M : Type 0} (names : M → ℕ) (seats : ℕ) where
+  -- a view that has seen the whole history sees it
   pub sees_all : (ns : List ℕ) (whole : List M) → Sees names seats ns whole whole
   sees_all ns whole = record { later = []; begins = append-nil whole; anothers = All-nil (λ e. IsAnothers seats ns (names e)) }
 
+  -- a view sees a history that goes on by what other numbers add
   pub sees_more : (ns : List ℕ) (seen whole more after : List M) → Sees names seats ns seen whole → whole ++ more ≡ after → All (λ e. IsAnothers seats ns (names e)) more → Sees names seats ns seen after
   sees_more ns seen whole more after s e h = record { later = s.later ++ more; begins = sym (append_assoc seen s.later more) ∙ (ap (λ l. l ++ more) s.begins ∙ e); anothers = All-append (λ e. IsAnothers seats ns (names e)) s.later more s.anothers h }
 
+  -- a view sees with fewer numbers what it sees with more
   pub sees_fewer : (ns ms : List ℕ) (seen whole : List M) → ((n : ℕ) → times n ms ≤ times n ns) → Sees names seats ns seen whole → Sees names seats ms seen whole
   sees_fewer ns ms seen whole le s = record { later = s.later; begins = s.begins; anothers = All-weaker (λ e. IsAnothers seats ns (names e)) (λ e. IsAnothers seats ms (names e)) (λ e h. fewer seats ns ms (names e) (le (names e)) h) s.later s.anothers }
 
@@ -67,6 +70,7 @@ module _ {M : Type 0} (names : M → ℕ) (seats : ℕ) where
   longer_at n m s t whole a b true is = let r = sees_between n m s t whole a b (grind (arith, nat_tests, is)) in (r.0, sees_all m t, sees_both n m t whole r.1 b)
   longer_at n m s t whole a b false is = let r = sees_between m n t s whole b a (grind (arith, nat_tests, is)) in (sees_all n s, r.0, sees_both n m s whole a r.1)
 
+  -- of two views of one history, the longer one sees it with the numbers of both
   pub sees_longer : (n m : List ℕ) (s t whole : List M) → Sees names seats n s whole → Sees names seats m t whole → Merged n m s t whole (longer s t)
   sees_longer n m s t whole a b = longer_at n m s t whole a b (nat_lt (length s) (length t)) refl
 

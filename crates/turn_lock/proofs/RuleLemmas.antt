@@ -18,12 +18,15 @@ use Rattle.turn_lock.specs.Rule.{has, holds_ticket, Fits, IsHome, IsKept}
 use Rattle.turn_lock.proofs.SumLemmas.{total_set, total_two, total_le, number_within, number_at_most_once}
 use Rattle.turn_lock.proofs.HistoryLemmas.{sees_more, adds_anothers}
 
+-- what is nothing is not something
 pub no_some : (m : ℕ) → None ≡ Some m → ⊥
 no_some m e = cc e
 
+-- nothing is both true and false
 pub not_both : (b : Bool) → b ≡ true → b ≡ false → ⊥
 not_both b t f = let e : true ≡ false = sym t ∙ f in cc e
 
+-- who has no ticket or another one holds this one not at all
 pub holds_none : (n : ℕ) (o : Option ℕ) → ((m : ℕ) → o ≡ Some m → m ≢ n) → holds_ticket n o ≡ 0
 holds_none n None h = refl
 holds_none n (Some m) h = let ne = h m refl in grind (arith, nat_tests)
@@ -31,6 +34,7 @@ holds_none n (Some m) h = let ne = h m refl in grind (arith, nat_tests)
 pub holds_one : (n : ℕ) (o : Option ℕ) → o ≡ Some n → holds_ticket n o ≡ 1
 holds_one n o e = ap (holds_ticket n) e ∙ grind (arith, nat_tests)
 
+-- who has a ticket has one
 pub has_some : (o : Option ℕ) (n : ℕ) → o ≡ Some n → has o ≡ 1
 has_some o n e = ap has e
 

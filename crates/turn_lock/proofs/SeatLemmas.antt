@@ -42,6 +42,7 @@ module _ {T M F : Type 0} (history : T → List M) (fixed : T → F) (names : M 
         turn = λ up. absurd (not_both w.served up unserved);
       }
 
+  -- a pass that is split keeps the rule
   pub split_keeps : (id : ℕ) (m : Mine) → IsCalm m → Splits Rule id m.0 (without_last m.0) (last_alone m.0)
   split_keeps id m calm s k at =
       let v : V = m.0 in let l : V = without_last v in let r : V = last_alone v in let vs : List V = s.views in let t = k.each id v at in let no = no_more history fixed names seats f v calm.none_joined in
@@ -69,6 +70,7 @@ module _ {T M F : Type 0} (history : T → List M) (fixed : T → F) (names : M 
         home = λ h. k.home (unserved_before history fixed names seats f vs id v l at calm.unserved (λ i u there. h i u (at_longer (set vs id l) (r ∷ []) i u there)));
       }
 
+  -- passes that are joined keep the rule
   pub join_keeps : (id other : ℕ) (m o : Mine) → IsCalm m → IsCalm o → Joins Rule id m.0 other o.0 (beside m.0 o.0) spent
   join_keeps id other m o calm calm' s k at apart there =
       let v : V = m.0 in let w : V = o.0 in let b : V = beside v w in let z : V = spent in let vs : List V = s.views in let mid : List V = set vs id b in
@@ -96,6 +98,7 @@ module _ {T M F : Type 0} (history : T → List M) (fixed : T → F) (names : M 
         home = λ h. k.home (unserved_before history fixed names seats f vs id v b at calm.unserved (unserved_before history fixed names seats f mid other w z there calm'.unserved h));
       }
 
+  -- views that are merged keep the rule
   pub merges_keeps : (id : ℕ) (m : Mine) → IsBeside m → Allows Rule 1 id m 0 (λ j. j) (merges names (step 1 0 0 0 none) m)
   merges_keeps id m calm s k one at small =
       let v : V = m.0 in let w : V = merged v in let t = k.each id v at in let q = t.same calm.some_number in

@@ -49,6 +49,7 @@ module _ {T M F : Type 0} (history : T → List M) (fixed : T → F) (names : M 
     turn = λ e. absurd (not_both false e refl);
   }
 
+  -- a view that draws its ticket keeps the rule
   pub draws_keeps : (id : ℕ) (m : Mine) → IsCalm m → Allows Rule 1 id m 0 (λ n. (n + 1) % 2 ^ 64) (draws (step 1 0 1 0 none) m)
   draws_keeps id m calm s k one at small =
       let v : V = m.0 in
@@ -102,6 +103,7 @@ module _ {T M F : Type 0} (history : T → List M) (fixed : T → F) (names : M 
   unmoved : (s : St) (k : Rule s) (i id : ℕ) (v : V) → get_elem? s.views id ≡ some v → Rule record { words = set s.words i (get_or s.words i 0); homes = s.homes; views = set s.views id v }
   unmoved s k i id v at = subst (λ (z : List ℕ × List V). Rule record { words = z.0; homes = s.homes; views = z.1 }) (λ j. (sym (set-get_or s.words i 0) j, sym (set_again s.views id v at) j)) k
 
+  -- a view that has its turn and looks at the state keeps the rule
   pub looks_keeps : (id n : ℕ) (m : Mine) → IsWaiting n m → Allows Rule 1 id m 1 (λ j. j) (looks history fixed names (step 1 1 0 0 none) m)
   looks_keeps id n m wait s k one at small = dite (ℕ_discrete (get_or s.words 1 0) n)
       (λ e. let now : k.serving ≡ n = sym k.serving_is ∙ e in let h = k.home (all_unserved history fixed names seats f s k id n m wait at now) in let x : T = h.0 in let t = k.each id m.0 at in let q = t.same wait.some_number in (
@@ -117,6 +119,7 @@ module _ {T M F : Type 0} (history : T → List M) (fixed : T → F) (names : M 
       ))
       (λ ne. (m.0, keeps, tt, unmoved s k 1 id m.0 at, λ j is. let same = same_Some n j (sym wait.ticket ∙ is) in ((λ e. absurd (ne (e ∙ sym same))), λ _. refl)))
 
+  -- a view that adds to the history in its turn keeps the rule
   pub counts_keeps : (id new : ℕ) (m : Mine) (x : T) → HasTurn (Some x) m → new ≡ length (history x) → AddsOwn names m.0.numbers m.0.seen (history x) → Allows Rule 1 id m 2 (λ _. new) (λ _. counts history (step 1 2 new 0 none) m new)
   counts_keeps id new m x turn long adds s k one at small =
       let v : V = m.0 in let w : V = in_turn v (history x) in let t = k.each id v at in let mine = t.turn turn.served in let three = k.three_words in let no = no_more history fixed names seats f v turn.none_joined in
@@ -132,6 +135,7 @@ module _ {T M F : Type 0} (history : T → List M) (fixed : T → F) (names : M 
         (λ y is. (ap (λ (z : T). in_turn v (history z)) (same_state x y (sym turn.has_slot ∙ is)), refl)),
       )
 
+  -- a view that ends its turn, and calls the next ticket, keeps the rule
   pub ends_keeps : (id : ℕ) (m : Mine) (x : T) → HasTurn (Some x) m → m.0.seen ≡ history x → m.0.fixed ≡ Some (fixed x) → Allows Rule 1 id m 1 (λ j. (j + 1) % 2 ^ 64) (ends (step 1 1 1 0 none) m)
   ends_keeps id m x turn hist fix s k one at small =
       let v : V = m.0 in let w : V = ended v in let t = k.each id v at in let mine = t.turn turn.served in let three = k.three_words in let one_slot = k.one_slot in let no = no_more history fixed names seats f v turn.none_joined in

@@ -67,6 +67,7 @@ check_three (mounts.BadExtent uid) check = refl
 abbrev drive_line : (before after : ℕ) → List ℕ
 drive_line before after = mount_text (mounts.Drive (record { before = before; after = after }))
 
+-- where a view ends with status 4, the fault of the drive is printed
 pub drive_told : (e : ViewErr) (before now : ℕ) (old new : Option (List ℕ)) → AreCounts before now e → (view_status e ≡ 4) × Appends old new (view_text e)
     → IsDriveFaultPrinted before now old new
 drive_told (errors.Mount e) before now old new counts told = let clash : 3 ≡ 4 = sym (check_three e counts) ∙ told.0 in absurd (cc clash)
@@ -83,6 +84,7 @@ pub fault_told : (before now : ℕ) (old new : Option (List ℕ)) → IsDriveFau
 fault_told before now old new (rose, told) =
     (record { before = before; after = now }, record { lowest = omega arith; rose = rose; highest = omega arith }, told)
 
+-- where a view ends with status 7, the want of memory is printed
 pub memory_told : (e : ViewErr) (before now : ℕ) (old new : Option (List ℕ)) → AreCounts before now e → (view_status e ≡ 7) × Appends old new (view_text e)
     → Appends old new (codes "memory\n")
 memory_told (errors.Mount e) before now old new counts told = let clash : 3 ≡ 7 = sym (check_three e counts) ∙ told.0 in absurd (cc clash)
@@ -112,6 +114,7 @@ module _ (c : Cartridge) (f g : Found c) where
 
 -- ---- nothing is refused that is there
 
+-- where the chain is whole and no command failed, `generations` ends with status 0 or 7
 pub chain_done : (c : Cartridge) (before now : ℕ) (e : ViewErr) (found : Found c) (links : List Index) → IsChain c found links → RefusesChain e c
     → AreCounts before now e → ¬ (Rose before now) → IsOneOf (view_status e) (0 ∷ 7 ∷ [])
 chain_done c before now (errors.Mount e) found links chain fault counts still = absurd (found_no_fault c e found fault)
@@ -121,6 +124,7 @@ chain_done c before now (errors.NoGeneration number) found links chain none coun
 chain_done c before now (errors.Drive said) found links chain free counts still = absurd (still counts.2)
 chain_done c before now errors.NoMemory found links chain free counts still = inr (inl refl)
 
+-- where the generation is there and no command failed, `view` ends with status 0 or 7
 pub view_done : (c : Cartridge) (generation before now : ℕ) (e : ViewErr) (found : Found c) (tree : Tree) → GenTree c found generation tree
     → RefusesView generation e c → AreCounts before now e → ¬ (Rose before now) → IsOneOf (view_status e) (0 ∷ 7 ∷ [])
 view_done c generation before now (errors.Mount e) found tree gen fault counts still = absurd (found_no_fault c e found fault)

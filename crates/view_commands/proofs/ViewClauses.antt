@@ -85,6 +85,7 @@ chain_whole drive (untold e) c is held found links chain still =
     chain_done c drive.before drive.now e found links chain (of_some drive.held (RefusesChain e) c held is.0) is.1 still
 
 module _ {D : Type 0} (drive : Ghosts D) (old new : D) (sink : Written) (status : ℕ) (log : Option Log) where
+  -- how a chain came to its end, and what was told of it, are what `generations` promises
   pub chain_does : (end : ChainEnd) → IsChainEnd (looked drive old new) end
       → Looks drive ((26 + 2 * (drive.limits old).cap_ip + 5 * (drive.limits old).cap_dp) * drive.MOST) old new → log ≡ None
       → IsTold (chain_status end) (chain_text end) sink status → DoesGenerations drive old new sink status log
@@ -194,6 +195,7 @@ module _ {D : Type 0} (asked : ViewWords) (drive : Ghosts D) (old new : D) (sink
   abbrev pub LooksSo : ℕ → Type 0
   LooksSo blocks = AreBlocksFor asked (drive.held old) blocks × Looks drive ((26 + 2 * (drive.limits old).cap_ip + 5 * (drive.limits old).cap_dp + 2 * blocks) * drive.MOST) old new
 
+  -- how a view came to its end, and what was told of it, are what `view` promises
   pub view_does : (end : ViewEnd) → IsViewEnd asked (looked drive old new) end → (blocks : ℕ) → LooksSo blocks → log ≡ None
       → IsTold (end_status end) (end_text end) sink status → DoesView asked drive old new sink status log
   view_does end is blocks looks none told =
@@ -248,6 +250,7 @@ module _ {D : Type 0} (asked : ViewWords) (drive : Ghosts D) (old mid : D) (view
       more : (n : ℕ) → n ≡ n + 2 * 0
       more n = omega arith
 
+  -- a listing of a generation that was told is what `view` promises
   pub view_listed : (new : D) (sink : Written) (status : ℕ) (log : Option Log) → new ≡ mid → log ≡ None → asked.path ≡ None → IsSeenTold view sink status
       → DoesView asked drive old new sink status log
   view_listed new sink status log same none path told = subst (λ d. DoesView asked drive old d sink status log) (sym same) (by (tape_told (drive.held old) sink status found told))
@@ -316,12 +319,14 @@ Reads drive view path old mid e =
     IsReadBy drive (length (blocks_read view.tree path 0 1048576)) (λ c. answer (plain_of (tape_of c) view.tree) (Read path 0 1048576)) old mid (Err e)
 
 module _ {D : Type 0} (drive : Ghosts D) (view : Opened) (path : Path) (old mid new : D) (sink : Written) (status : ℕ) (log : Option Log) (same : new ≡ mid) (none : log ≡ None) where
+  -- a read that was answered and told is what a read of a view promises
   pub read_answered : (told : Answer)
       → IsReadBy drive (length (blocks_read view.tree path 0 1048576)) (λ c. answer (plain_of (tape_of c) view.tree) (Read path 0 1048576)) old mid (Ok told)
       → IsTold 0 (answer_line told) sink status ⊎ IsTold 7 (codes "memory\n") sink status → IsReadTold drive view path old new sink status log
   read_answered told read text = subst (λ d. IsReadTold drive view path old d sink status log) (sym same)
       (record { told = inl (told, read.answer, text); later = read.later; looks = read.looks; no_log = none })
 
+  -- a read at which the drive failed, and that was told, is what a read of a view promises
   pub read_failed : (counts : Twin) → Reads drive view path old mid (read_errors.Drive counts)
       → IsTold 4 (mount_text (mounts.Drive counts)) sink status ⊎ IsTold 7 (codes "memory\n") sink status → IsReadTold drive view path old new sink status log
   read_failed counts read text = subst (λ d. IsReadTold drive view path old d sink status log) (sym same)
@@ -332,12 +337,14 @@ module _ {D : Type 0} (drive : Ghosts D) (view : Opened) (path : Path) (old mid 
         no_log = none;
       })
 
+  -- a read for which there was no memory is told as such
   pub read_starved : (e : ReadErr) → Reads drive view path old mid e → IsTold 7 (codes "memory\n") sink status → IsReadTold drive view path old new sink status log
   read_starved e read text = subst (λ d. IsReadTold drive view path old d sink status log) (sym same)
       (record { told = inr (inr text); later = read.later; looks = read.looks; no_log = none })
 
 -- there is no view
 module _ {D : Type 0} (asked : ViewWords) (drive : Ghosts D) (old mid new : D) (sink : Written) (status : ℕ) (log : Option Log) where
+  -- where there is no view, `view` tells what it promises
   pub view_unseen : (e : ViewErr) → new ≡ mid → log ≡ None → ((c : Cartridge) → drive.held old ≡ Some c → RefusesView asked.generation e c)
       → AreCounts (drive.faults old) (drive.faults mid) e
       → Looks drive ((26 + 2 * (drive.limits old).cap_ip + 5 * (drive.limits old).cap_dp) * drive.MOST) old mid
@@ -353,12 +360,14 @@ module _ {D : Type 0} (asked : ViewWords) (drive : Ghosts D) (old mid new : D) (
 
 -- the chain is told, or why there is none
 module _ {D : Type 0} (drive : Ghosts D) (old mid new : D) (sink : Written) (status : ℕ) (log : Option Log) where
+  -- a chain that was told is what `generations` promises
   pub chain_told : (told : List Generation) → new ≡ mid → log ≡ None → ((c : Cartridge) → drive.held old ≡ Some c → TellsChain told c)
       → Looks drive ((26 + 2 * (drive.limits old).cap_ip + 5 * (drive.limits old).cap_dp) * drive.MOST) old mid
       → IsTold 0 (generations_text told) sink status ⊎ IsTold 7 (codes "memory\n") sink status → DoesGenerations drive old new sink status log
   chain_told told same none is looks text = subst (λ d. DoesGenerations drive old d sink status log) (sym same)
       (chain_or_memory drive old mid sink status log (all_told told) (if_some (drive.held old) (TellsChain told) is) looks none text)
 
+  -- where no chain is told, `generations` tells what it promises
   pub chain_untold : (e : ViewErr) → new ≡ mid → log ≡ None → ((c : Cartridge) → drive.held old ≡ Some c → RefusesChain e c)
       → AreCounts (drive.faults old) (drive.faults mid) e
       → Looks drive ((26 + 2 * (drive.limits old).cap_ip + 5 * (drive.limits old).cap_dp) * drive.MOST) old mid

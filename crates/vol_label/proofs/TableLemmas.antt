@@ -9,6 +9,7 @@ use Rattle.std.proofs.lemmas.List.FromFn.{length-map-range_with_len, get_or-map-
 use Rattle.vol_label.specs.declared.Vol1.{Vol1}
 use Rattle.vol_label.specs.Table.{IsRecord, IsVol1, is_printable, may_stand, record_of}
 
+-- each of the 80 bytes may stand where it stands
 abbrev pub AllStand : List ℕ → Type 0
 AllStand bytes = (k : ℕ) → k < 80 → may_stand k (get_or bytes k 0) ≡ true
 

@@ -43,12 +43,14 @@ AppliesDp dp old new result = (early : Tape) (g : Given) (on : Bool) (st : Stand
     → IsStock early g on st old
     → IsDpDocument g st at dp → IsDpChange early g on st at old new result
 
+-- how the index that is due on the index partition, if one is, was admitted or not
 abbrev pub AppliesIp : Option (List ℕ) → Stocked → Stocked → Result (Unit {0}) AdmitErr → Type 0
 AppliesIp ip old new result = (early : Tape) (g : Given) (on : Bool) (st : Standing) (at : Moment)
     → IsStock early g on st old
     → IsIpDocument g st at ip → IsIpEnd ip g st at old new result
 
 module _ (at : Moment) (held mid : Stocked) (dp ip : Option (List ℕ)) (texts : AreTexts at held dp ip) where
+  -- where nothing went wrong, the index that is due on the data partition was admitted
   pub admits_dp : AppliesDp dp held mid (Ok tt) → AdmitsOnDp at held mid
   admits_dp applied early g on st is = applied early g on st at is (texts early g on st is).0
 
@@ -67,6 +69,7 @@ module _ (at : Moment) (held mid : Stocked) (dp ip : Option (List ℕ)) (texts :
   ended (Some text) g st last due end = (due.0, end)
   ended None g st last due end = (due, end.0)
 
+  -- where nothing went wrong then, the one that is due on the index partition was admitted
   pub admits_ip : AdmitsOnDp at held mid → (last : Stocked) → AppliesIp ip mid last (Ok tt)
       → AdmitsOnIp at held mid last (is_some ip)
   admits_ip did last applied early g on st is =
@@ -80,6 +83,7 @@ module _ (at : Moment) (held mid : Stocked) (dp ip : Option (List ℕ)) (texts :
   short (Some text) need limit g st last due end = (due.0, end)
   short None need limit g st last due end = let no : Err (errors.Full need limit) ≡ Ok tt = end.1 in absurd cc
 
+  -- where that doesn't fit, the close is short on the index partition
   pub short_ip : AdmitsOnDp at held mid → (last : Stocked) (need limit : ℕ)
       → AppliesIp ip mid last (Err (errors.Full need limit))
       → IsShortOnIp at held need limit

@@ -89,21 +89,27 @@ dp_after v on s text true fits old = (within v on s text fits).1
 dp_after v on s text false fits old = old
 
 module _ {D : Type 0} (drive : Ghosts D) (fixed : Fixed D) (next : Option Moment) (at : Moment) (p : Parts D) where
+  -- the volume that is closed, as its view
   abbrev pub v : View D
   v = view_of fixed next p
 
+  -- how many positions the drive had at the start
   abbrev pub limits : Limits
   limits = drive.limits fixed.first
 
+  -- what the volume's space starts from
   abbrev pub g : Given
   g = given_by (drive.limits fixed.first) (view_of fixed next p)
 
+  -- files may go to the index partition at the end of the history
   abbrev pub on : Bool
   on = is_on g.mounted p.on (length p.listed.history)
 
+  -- what stands at the end of the history
   abbrev pub st : Standing
   st = standing_now (drive.limits fixed.first) (view_of fixed next p)
 
+  -- the ops of the index that is due on the data partition
   abbrev pub asked : List Op
   asked = ops_of (rules g) on st.space (close_ask g st at)
 
@@ -112,12 +118,15 @@ module _ {D : Type 0} (drive : Ghosts D) (fixed : Fixed D) (next : Option Moment
   st1 = closed_dp g on st at
 
   module _ (planned : Items) (tied : IsTied drive fixed planned p) where
+    -- what is planned once that index is admitted
     abbrev pub planned1 : Items
     planned1 = with_ops asked planned
 
+    -- what is held is what stands, on the tape that is planned
     pub held : IsStock (tape_on planned) g on st p.stock
     held = tied.stock
 
+    -- each block of the tree stands behind the labels
     pub behind : BeginsBehindLabels p.stock.tree
     behind part pos t = tied.files.low part pos (record {
       uid = t.file.node.uid;
@@ -126,10 +135,12 @@ module _ {D : Type 0} (drive : Ghosts D) (fixed : Fixed D) (next : Option Moment
           t.block;
     })
 
+    -- the ops of that index come next
     pub next_ops : AreNext (ends_in planned) asked
     next_ops = subst (λ (e : Ends). AreNext e asked) tied.ends (ends_go_on.admits (rules g) on st.space
         (close_ask g st at))
 
+    -- the space behind that index has the ends of what is planned then
     pub ends_now : st1.space.ends ≡ ends_in planned1
     ends_now = ends_go_on.leaves (rules g) on st.space (close_ask g st at)
         ∙ ap (λ (e : Ends). after_ops e asked) tied.ends
@@ -181,6 +192,7 @@ module _ {D : Type 0} (drive : Ghosts D) (fixed : Fixed D) (next : Option Moment
             back = near.back;
           }
 
+      -- the index that a close admits on the data partition is due
       pub dp_due : (q : Planned) → fixed.mounted.label ≡ q.labels.ip
           → ((part : Part) → part_items part q.made ≡ planned part)
           → is_over (rules g) on st.space (index (sync_text g st at)) ≡ false → IsNextDue q limits v at
@@ -208,6 +220,7 @@ module _ {D : Type 0} (drive : Ghosts D) (fixed : Fixed D) (next : Option Moment
             (dp_after (rules g) on st.space (sync_text g st at) (is_dp_due g st.space) fits
             (omega (arith, tied.room Dp, ap (λ (e : Ends). e.dp) tied.ends)))
 
+        -- the index that a close admits on the index partition is due
         pub ip_due : (q : Planned) → fixed.mounted.label ≡ q.labels.ip
             → ((part : Part) → part_items part q.made ≡ planned1 part) → close_need g st1 at ≤ close_limit g
             → (on_ip : Index) × IsCloseDue (volume_of q.labels v) (trees_of v) q.made st1.space (close_text g st1 at)

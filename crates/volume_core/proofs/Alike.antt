@@ -85,6 +85,7 @@ module _ (c : Cartridge) (m : Mounted) (mounts : Mounts c m) (ip : m.ip_done ≡
       (subst (λ (o : Option Index). IsLastOnIp f.labels.ip (indexes_of c.ip) (indexes_of c.dp) f.on_dp o) k.last
       f.ip_last)
 
+  -- whether both partitions tell the same is decided, where both are done
   pub known_alike : Known (AreAlike c (carried m.index) tree m.newest)
   known_alike = known_by there back
       (known_both (told_facts (carried m.index) (carried k.on_ip)) (known_tree f.labels.ip c k.on_ip tree on_ip_valid))

@@ -68,9 +68,11 @@ module _ {D : Type 0} (drive : Ghosts D) (who nth : ℕ) (call : Call) (p : Part
         (calls_left r.fixed.script p.listed.history who in_order.orderly.placed placed_so_far);
   }
 
+  -- a volume that runs may be asked for the next call of a session
   pub can_ask : CanAsk who p
   can_ask = record { place = can_place; trail = in_order.orderly.trail; none_due = r.runs.tied.none_due }
 
+  -- what is held of a volume that runs is what stands
   pub stands : Stands p
   stands = record {
     planned = r.runs.planned;
@@ -83,6 +85,7 @@ module _ {D : Type 0} (drive : Ghosts D) (who nth : ℕ) (call : Call) (p : Part
     ops = ops_count;
   }
 
+  -- a read of a volume that runs may want blocks
   pub can_want_blocks : CanWantBlocks p
   can_want_blocks = can_want drive r.fixed r.runs.planned p r.runs.tied ops_stand
 

@@ -149,6 +149,7 @@ module _ (letters : Letters) (size : ℕ) (nodes : List told.Node) (order : AreI
       let next : suc k + 1 ≡ suc (suc k) = omega arith in
       (more.0, subst (λ n. IsBuilt letters size nodes n more.0) next more.1)
 
+-- each valid index has a tree, wherever its extents lie
 pub some_tree : (letters : Letters) (size : ℕ) (index : Index) → IsValid index
     → (t : FileTree) × IsTreeOf letters size index t
 some_tree letters size index valid =

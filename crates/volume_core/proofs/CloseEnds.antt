@@ -214,6 +214,7 @@ module _ {D : Type 0} (drive : Ghosts D)
       result
       (admitted_ip drive fixed next at p can mid dp last due ip) ends)
 
+-- a volume that is closed ends as is promised
 pub closes_end : {D : Type 0} (drive : Ghosts D)
     → ((d : D) (t : ℕ) (image : Cartridge) → t ≤ drive.commands d → drive.leaves d image
     → drive.left_since d t image) → ClosesEnd drive

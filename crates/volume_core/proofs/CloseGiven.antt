@@ -42,6 +42,7 @@ module _ {D : Type 0} (drive : Ghosts D) (fixed : Fixed D) (next : Option Moment
       (λ past. omega (arith, order.count, slice_get_within p.listed.replies k None none, past.0))
       (slice_get_cases p.listed.history k).1
 
+  -- no sync waits in a volume that is closed
   pub no_waits : waits_after p.trail.events ≡ []
   no_waits = by (after_all p.trail.events).syncs refl
     where
@@ -56,6 +57,7 @@ module _ {D : Type 0} (drive : Ghosts D) (fixed : Fixed D) (next : Option Moment
 
   -- ---- what the drive told at the start
 
+  -- a cartridge that can be served can be read
   pub reads_too : CanServe drive fixed → CanRead drive fixed
   reads_too serve = record {
     held = serve.held;
@@ -65,6 +67,7 @@ module _ {D : Type 0} (drive : Ghosts D) (fixed : Fixed D) (next : Option Moment
     sure = serve.sure;
   }
 
+  -- the last index of a volume that is closed is near
   pub near : CanRead drive fixed → IsNear (admitted.st drive fixed next at p).space
   near read = (closes_can_tell drive).near fixed.first v can.runs.tied.limits can.runs.tied.mount
       (can.runs.kept.truth read)

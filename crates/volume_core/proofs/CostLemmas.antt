@@ -425,12 +425,14 @@ worked events at place old new taken flush le walked may taken_is flush_is goes 
 abbrev pub no_event : Event
 no_event = Wants 0 (record { part = Ip; pos = 0 })
 
+-- a walk over a trail goes on by one event
 pub meets : (events : List Event) (at : ℕ) (e : Event) (w : Walk) → at < length events → get_or events at no_event ≡ e
     → IsWalked (take at events ++ e ∷ []) w → IsWalked (take (at + 1) events) w
 meets events at e w lt is walked =
     subst (λ xs. IsWalked xs w) (ap (λ x. take at events ++ x ∷ []) (sym is)
     ∙ sym (take_more events at no_event lt)) walked
 
+-- each event of a trail may come after those before it
 pub allowed_at : (events : List Event) (at : ℕ) (e : Event) → IsTrail events → at < length events
     → get_or events at no_event ≡ e
     → allows (after_all (take at events)) e ≡ true

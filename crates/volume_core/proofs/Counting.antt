@@ -103,6 +103,7 @@ module _ (script : List ScriptLine) (history : List Placed) where
   calls_count : (who : ℕ) → length (calls_of script who) ≡ count_of (λ (l : ScriptLine). l.who) who script
   calls_count who = length-map (filter (λ (l : ScriptLine). l.who == who) script) (λ (l : ScriptLine). l.call)
 
+  -- as long as a session has a call left, the history is shorter than the script
   pub calls_left : (who : ℕ) → IsPlacedSoFar (calls_of script) history
       → length (numbers_of history who) < length (calls_of script who) → length history < length script
   calls_left who so_far more =
@@ -110,6 +111,7 @@ module _ (script : List ScriptLine) (history : List Placed) where
       (λ w. omega (arith, so_far.within w, placed_count w, calls_count w))
       (omega (arith, more, placed_count who, calls_count who))
 
+  -- a history is no longer than its script
   pub placed_within : IsPlacedSoFar (calls_of script) history → length history ≤ length script
   placed_within so_far =
       no_longer (λ (p : Placed). p.who) (λ (l : ScriptLine). l.who) history script

@@ -17,6 +17,7 @@ use Rattle.volume_core.specs.Commands as closing
 use Rattle.volume_core.specs.Commands.{AreOpsDone, DoesOps, EndsWith, FailsOp, IsDpNoteWritten, IsNoteWritten}
 use Rattle.volume_core.specs.Commands.{Lasts, WritesNotes, WritesNotesIf}
 
+-- the drive's counts never fall, its limits stay, and it tells nothing where it told nothing
 pub record GoesOn {D : Type 0} (drive : Ghosts D) (old new : D) : Type 0 where
   pub commands : drive.commands old ≤ drive.commands new
   pub faults : drive.faults old ≤ drive.faults new
@@ -28,6 +29,7 @@ abbrev pub Tells : {D : Type 0} → Ghosts D → D → D → Result Unit Twin �
 Tells drive old new (Ok done) = Unit {0}
 Tells drive old new (Err counts) = IsRise (drive.faults old) (drive.faults new) counts.before counts.after
 
+-- the same, and a failure tells the drive's count of faults
 pub record GoesTo {D : Type 0} (drive : Ghosts D) (old new : D) (result : Result Unit Twin) : Type 0 where
   pub goes : GoesOn drive old new
   pub tells : Tells drive old new result
@@ -48,6 +50,7 @@ rise_of low before now counts least from to rose = record {
 }
 
 module _ {D : Type 0} (drive : Ghosts D) where
+  -- a drive to which nothing is done goes on
   pub stays : (d : D) → GoesOn drive d d
   stays d = record {
     commands = least_same (drive.commands d);
@@ -110,6 +113,7 @@ module _ {D : Type 0} (drive : Ghosts D) where
       behind old fails.mid new (Err counts) (does_on ops (fails.op ∷ fails.later) old fails.mid fails.before)
       (failed_to _ _ counts fails.mid new fails.failed.made)
 
+  -- over the ops of a close the drive goes on, and a failure is told
   pub ops_to : (ops : List Op) (old new : D) (result : Result Unit Twin) → AreOpsDone drive ops old new result
       → GoesTo drive old new result
   ops_to ops old new (Ok done) does = record { goes = does_on ops [] old new does; tells = tt }
@@ -170,6 +174,7 @@ module _ {D : Type 0} (drive : Ghosts D) where
 
   -- ---- all of it
 
+  -- over all commands of a close the drive goes on, and a failure is told
   pub ends_to : (ops : List Op) (lasts : Lasts) (due : Bool) (old new : D) (result : Result Unit Twin)
       → EndsWith drive ops lasts due old new result → GoesTo drive old new result
   ends_to ops lasts due _ _ _ (closing.in_ops counts old new fails) = fails_to ops old new counts fails

@@ -168,6 +168,7 @@ module _ {D : Type 0} (drive : Ghosts D) (fixed : Fixed D) (next : Option Moment
     pub mid_closing : (q : Planned) × IsClosing drive v q mid.layout.ops p.drive
     mid_closing = (q1, closes_mid)
 
+    -- a crash of a close without room on the index partition leaves what is promised
     pub short_survives : (new : D) (result : Result Unit Twin) → AreOpsDone drive mid.layout.ops p.drive new result
         → Survives drive v new
     short_survives new result does = ops_survive drive v q1 mid.layout.ops p.drive new result does closes_mid
@@ -178,6 +179,7 @@ module _ {D : Type 0} (drive : Ghosts D) (fixed : Fixed D) (next : Option Moment
         (seen drive new)
     ShortHolds new (Err counts) = Unit {0}
 
+    -- where those ops were all done, the cartridge and what a crash leaves have the whole tree
     pub short_holds : (new : D) (result : Result Unit Twin) → AreOpsDone drive mid.layout.ops p.drive new result
         → ShortHolds new result
     short_holds new (Ok done) does =
@@ -304,12 +306,14 @@ module _ {D : Type 0} (drive : Ghosts D) (fixed : Fixed D) (next : Option Moment
 
     -- ---- either
 
+    -- what stands once both indexes were admitted can be closed, and notes may come behind
     pub last_closes : (last : Stocked) (due : Bool) → IsAdmittedOnIp g st1 at mid last due → ClosesBy last
     last_closes last true ip = went_closes ip.1.fits last
         (ip.1.ops
         ∙ ap (λ (l : List Op). l ++ closing_ops drive fixed next at p can) (mid_ops drive fixed next at p can mid dp))
     last_closes last false ip = still_closes ip.0 last ip.1
 
+    -- a crash of a close whose indexes were admitted leaves what is promised
     pub admitted_survives : (last : Stocked) (due notes : Bool) (new : D) (result : Result Unit Twin)
         → IsAdmittedOnIp g st1 at mid last due
         → EndsWith drive last.layout.ops (lasts_of mid) notes p.drive new result → Survives drive v new

@@ -77,6 +77,7 @@ does_append drive _ _ left _ _ new (DoesOps.rest ops d) then = then
 does_append drive _ mids left _ mid new (DoesOps.one op later left' end old next mid' step well more) then =
     DoesOps.one op later left end old next new step well (does_append drive later mids left next mid new more then)
 
+-- one op more was done, and the ops behind it are left
 pub does_more : {D : Type 0} (drive : Ghosts D) (ops standing left later : List Op) (op : Op) (old mid new : D)
     → DoesOps drive ops old standing mid
     → standing ≡ op ∷ later → IsOneDone drive op later left mid new (Ok tt) → DoesOps drive ops old left new
@@ -85,6 +86,7 @@ does_more drive ops standing left later op old mid new run first did =
     (DoesOps.one op later left did.0 mid new new did.1 did.2
     (subst (λ (l : List Op). DoesOps drive l new left new) did.3 (DoesOps.rest left new)))
 
+-- once the first op is done, the others can be done
 pub can_go_on : {D : Type 0} (drive : Ghosts D) (standing left later : List Op) (op : Op) (mid new : D)
     → CanDoAll drive standing mid
     → standing ≡ op ∷ later → IsOneDone drive op later left mid new (Ok tt) → CanDoAll drive left new

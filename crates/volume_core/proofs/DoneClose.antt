@@ -35,6 +35,7 @@ pub record IsShown {D : Type 0} (drive : Ghosts D) (first new : D) (mounted : Mo
   pub alike : AreAlike now (carried mounted.index) tree newest
       ⊎ IsLeftApart cartridges (seen drive first) mounted before newest
 
+-- a close of which all is shown is done
 pub shown_done : {D : Type 0} (drive : Ghosts D) (first new : D) (mounted : Mounted) (before tree : Tree)
     (newest generation : ℕ) → generation ≡ newest → IsShown drive first new mounted before tree newest
     → IsDoneClose cartridges (seen drive first) (seen drive new) mounted before tree newest generation

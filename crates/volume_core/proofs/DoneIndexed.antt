@@ -52,6 +52,7 @@ plan_on fixed labels items = record {
   };
 }
 
+-- the plan of some items has just these items
 pub items_on : {D : Type 0} (fixed : Fixed D) (labels : Labels) (items : Items) (part : Part)
     → part_items part (plan_on fixed labels items).made ≡ items part
 items_on fixed labels items Ip = refl
@@ -176,6 +177,7 @@ module _ {D : Type 0} (drive : Ghosts D) (fixed : Fixed D) (next : Option Moment
   by_due true is within = due_by within
   by_due false is within = still_by is
 
+  -- behind the close's index the data partition ends with the tree of the whole history
   pub indexed_now : is_over (rules g) on st.space (close_ask g st at) ≡ false
       → IsIndexedBy label facts tree (admitted.st1 drive fixed next at p).space
       (admitted.planned1 drive fixed next at p planned can.runs.tied)
@@ -189,6 +191,7 @@ module _ {D : Type 0} (drive : Ghosts D) (fixed : Fixed D) (next : Option Moment
       (indexed_ip label planned indexed.open_ends (rules g) on st.space text)
   none_more false = ap (λ (l : List Item). indexes_of l) (append-nil (planned Ip))
 
+  -- where the index partition was mounted with one index, what is planned there first has none
   pub alone_now : (c : Cartridge) → drive.held fixed.first ≡ Some c → HasOneIndex c
       → indexes_of (admitted.planned1 drive fixed next at p planned can.runs.tied Ip) ≡ []
   alone_now c told one = none_more (is_dp_due g st.space) ∙ can.runs.closes.alone read c told one

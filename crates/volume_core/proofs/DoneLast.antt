@@ -199,6 +199,7 @@ module _ {D : Type 0} (drive : Ghosts D) (fixed : Fixed D) (next : Option Moment
           dp_now,
         )
 
+    -- a close that is done with an index on the index partition shows what is promised
     pub shown_last : (new : D) → AllDone drive ops2 (lasts_of mid) true p.drive new
         → IsShown drive fixed.first new fixed.mounted fixed.tree tree st1.space.newest
     shown_last new all = let last = last_both new all in noted_last new last.0 last.1 last.2 last.3

@@ -56,6 +56,7 @@ pub record AllDone {D : Type 0} (drive : Ghosts D) (ops : List Op) (lasts : Last
   pub does : DoesOps drive ops old [] mid
   pub notes : WritesNotesIf drive lasts due mid new (Ok tt)
 
+-- a close's commands that end well have done all ops and notes
 pub all_done : {D : Type 0} (drive : Ghosts D) (ops : List Op) (lasts : Lasts) (due : Bool) (old new : D)
     (result : Result Unit Twin) → EndsWith drive ops lasts due old new result → result ≡ Ok tt
     → AllDone drive ops lasts due old new
@@ -143,6 +144,7 @@ module _ {D : Type 0} (drive : Ghosts D) (label : Label) (lasts : Lasts) (uuid :
       told
       rest may
 
+  -- with both notes written, both tell of the last indexes
   pub notes_done : (old new : D) (c : Cartridge) → WritesNotes drive lasts old new (Ok tt) → drive.held old ≡ Some c
       → IsAtRest drive old → MayTell c label lasts → AreBothNoted drive label c new
   notes_done old new c w told rest may = notes_by old new (Ok tt) c w refl told rest may

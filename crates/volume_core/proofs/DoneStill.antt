@@ -182,6 +182,7 @@ module _ {D : Type 0} (drive : Ghosts D) (fixed : Fixed D) (next : Option Moment
         (sym read.told) apart,
   )
 
+  -- a close that is done without an index to write shows what is promised
   pub shown_still : (noted : Bool) (new : D) → fixed.mounted.noted ≡ noted
       → Known (AreAlike c facts fixed.tree fixed.mounted.newest)
       → AllDone drive ops1 (lasts_of mid) (not noted) p.drive new

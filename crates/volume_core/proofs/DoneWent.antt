@@ -50,12 +50,14 @@ module _ (size pos : ℕ) (text : List ℕ) where
   abbrev last : ℕ → List Op
   last at = ops.Mark (record { part = Ip; pos = at }) ∷ []
 
+  -- the index of a close puts its construct on the index partition
   pub close_ip : items_by Ip (construct size Ip pos text) ≡ Mark ∷ (map Block (blocks_of size text) ++ Mark ∷ [])
   close_ip = ap (λ (l : List Item). Mark ∷ l)
       (ops_append Ip (filling ++ last _) (ops.Flush (record { part = Ip; pos = _ }) ∷ [])
       ∙ append-nil (items_by Ip (filling ++ last _)) ∙ ops_append Ip filling (last _)
       ∙ ap (λ (l : List Item). l ++ Mark ∷ []) (put_items Ip Ip size (pos + 1) text))
 
+  -- the index of a close puts nothing on the data partition
   pub close_dp : items_by Dp (construct size Ip pos text) ≡ []
   close_dp = ops_append Dp (filling ++ last _) (ops.Flush (record { part = Ip; pos = _ }) ∷ [])
       ∙ append-nil (items_by Dp (filling ++ last _)) ∙ ops_append Dp filling (last _)
@@ -107,6 +109,7 @@ module _ (l : Labels) (facts : Carried) (tree : Tree) (s : Space) (items : Items
   front_dp : (n : ℕ) → take n (items Dp) ≡ take n c.dp
   front_dp n = ap (λ (x : List Item). take n x) (sym dp_is)
 
+  -- a cartridge on which a close's index went has the volume's labels
   pub went_labels : HasLabels c l
   went_labels = labels_stay (cartridge_on items) c l (front_ip 4 w.ready_ip.labels) (front_dp 4) w.has
 
@@ -114,9 +117,11 @@ module _ (l : Labels) (facts : Carried) (tree : Tree) (s : Space) (items : Items
   form_ip = form_of (with_construct (items Ip) bs)
       (ready_opened (with_construct (items Ip) bs) (construct_ready (items Ip) bs w.ready_ip some)).good
 
+  -- the index partition has the form of one behind a close's index
   pub went_ip_form : HasForm c.ip
   went_ip_form = subst (λ (x : List Item). HasForm x) (sym ip_is) form_ip
 
+  -- the data partition has the form of one behind a close's index
   pub went_dp_form : HasForm c.dp
   went_dp_form = subst (λ (x : List Item). HasForm x) (sym dp_is)
       (form_of (items Dp) (ready_opened (items Dp) w.ready_dp).good)
@@ -170,18 +175,22 @@ module _ (l : Labels) (facts : Carried) (tree : Tree) (s : Space) (items : Items
       (subst (λ (x : Tree). IsTreeOf l.ip (cartridge_on items) index x) w.tree_is
       (subst (λ (x : Cartridge). IsTreeOf l.ip x index (t.nth t.count)) w.made_is w.due.tells.tree))
 
+  -- the cartridge stands for the tree of the whole history behind a close's index
   pub went_stands : Stands c facts tree s.newest
   went_stands = subst (λ (n : ℕ). Stands c facts tree n) w.told.generation
       (close_stands c l newest index ends_so facts tree w.told.facts_are dp_tree)
 
+  -- the cartridge is consistent behind a close's index
   pub went_consistent : IsConsistent c
   went_consistent = close_consistent c l newest index ends_so
       (subst (λ (x : List Item). EndsWithLast x (indexes_of x)) (sym dp_is) w.told.ends)
 
+  -- both partitions tell the same tree behind a close's index
   pub went_alike : AreAlike c facts tree s.newest
   went_alike = subst (λ (n : ℕ). AreAlike c facts tree n) w.told.generation
       (close_alike c l newest index ends_so facts tree w.due.tells.facts w.told.facts_are ip_tree dp_tree)
 
+  -- both notes may tell of the last indexes behind a close's index
   pub went_tells : (lasts : Lasts) → lasts.generation ≡ s.newest → lasts.on_ip ≡ s.ends.ip + 1
       → lasts.on_dp ≡ s.last_dp → MayTell c l.ip lasts
   went_tells lasts generation on_ip on_dp = record {

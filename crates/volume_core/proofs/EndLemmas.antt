@@ -11,12 +11,14 @@ use Rattle.serving_promise.specs.declared.answers.CloseEnd.{CloseEnd}
 use Rattle.volume_core.specs.Commands.{AreOpsDone, EndsWith, Lasts}
 use Rattle.volume_core.specs.Finish.{AdmitsOnDp, AdmitsOnIp, Finishes, IsShortOnIp, close_end, lasts_of, short_end}
 
+-- what is made of something is there just if that is there
 pub some_mapped : {X Y : Type 0} (f : X → Y) (o : Option X) → is_some (option_map f o) ≡ is_some o
 some_mapped f None = refl
 some_mapped f (Some x) = refl
 
 module _ {D : Type 0} (drive : Ghosts D) (noted : Bool) (at : Moment) (held mid : Stocked) (old new : D)
     (told : Result (Unit {0}) Twin) (outcome : CloseEnd) where
+  -- a close whose indexes were admitted ends as its commands did
   pub went : (last : Stocked) (due notes : Bool) (lasts : Lasts) (generation : ℕ) → AdmitsOnDp at held mid
       → AdmitsOnIp at held mid last due → notes ≡ (due || not noted) → lasts ≡ lasts_of mid
       → generation ≡ lasts.generation
@@ -30,6 +32,7 @@ module _ {D : Type 0} (drive : Ghosts D) (noted : Bool) (at : Moment) (held mid 
       (subst (λ b. EndsWith drive last.layout.ops (lasts_of mid) b old new told) notes_is
       (subst (λ (l : Lasts). EndsWith drive last.layout.ops l notes old new told) lasts_is ends)))
 
+  -- a close without room on the index partition ends with its need and limit
   pub short : (last : Stocked) (need limit : ℕ) → AdmitsOnDp at held mid → IsShortOnIp at held need limit
       → last.layout ≡ mid.layout → AreOpsDone drive last.layout.ops old new told → outcome ≡ short_end need limit told
       → Finishes drive noted at held old new outcome

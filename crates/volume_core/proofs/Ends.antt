@@ -82,6 +82,7 @@ module _ {D : Type 0} (drive : Ghosts D) (fixed : Fixed D) (next : Option Moment
       }
 
   module _ (few : length (places_of who p.listed.marks) < 2 ^ 32) where
+    -- a session of a volume that runs may end its drain
     pub can_end : CanEnd who p
     can_end = record {
       place = can_fault;
@@ -133,6 +134,7 @@ module _ {D : Type 0} (drive : Ghosts D) (fixed : Fixed D) (next : Option Moment
         room = omega (arith, can_fault.room, ap (λ (l : List Placed). length l) made.history, tied_then.calls, runs.tied.calls);
       }
 
+      -- after a step of the head it may end its drain too
       pub ends_then : CanEnd who mid
       ends_then =
           let places = ap (λ ms. length (places_of who ms)) made.marks in

@@ -142,6 +142,7 @@ told_nodes m n =
     known_by (λ (h : fin.entries m ≡ fin.entries n). fin.same_entries_map m n h)
     (λ (e : m ≡ n). ap fin.entries e) (told_list told_entry (fin.entries m) (fin.entries n))
 
+-- whether two plain trees are one is decided
 pub told_tree : (a b : Tree) → Known (a ≡ b)
 told_tree a b =
     known_by (λ (h : (a.highest ≡ b.highest) × (a.nodes ≡ b.nodes)) i. record { highest = h.0 i; nodes = h.1 i })
@@ -171,6 +172,7 @@ abbrev SameFacts : Carried → Carried → Type 0
 SameFacts a b = (a.root ≡ b.root)
     × ((a.comment ≡ b.comment) × ((a.allow ≡ b.allow) × ((a.policy ≡ b.policy) × (a.lock ≡ b.lock))))
 
+-- whether two indexes carry over the same is decided
 pub told_facts : (a b : Carried) → Known (a ≡ b)
 told_facts a b =
     known_by

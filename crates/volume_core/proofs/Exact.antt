@@ -21,6 +21,7 @@ pub record IsThere {D : Type 0} (drive : Ghosts D) (planned : Items) (ops : List
   pub dp : IsWhole Dp planned ops c
 
 module _ {D : Type 0} (drive : Ghosts D) (planned : Items) where
+  -- ops that are done leave the tape on its way, and both partitions whole
   pub does_there : (ops left : List Op) (old new : D) → DoesOps drive ops old left new → (c : Cartridge)
       → IsThere drive planned ops old c → (d : Cartridge) × IsThere drive planned left new d
   does_there _ _ _ _ (closing.rest ops d) c is = (c, is)

@@ -51,6 +51,7 @@ pub record HandsHere (who here : ℕ) (old new : Listed) : Type 0 where
 
 module _ (placed : Placed) (here : ℕ) (old mid : Listed) (here_is : here ≡ length old.history)
     (p : PlacesHere placed old mid) where
+  -- a write that was just placed void has no reply yet
   pub none_yet : slice_get mid.replies here ≡ Some None
   none_yet = ap (λ (rs : List (Option Reply)). slice_get rs here) p.replies
       ∙ ap (λ k. slice_get (old.replies ++ None ∷ []) k) (here_is ∙ sym p.each) ∙ slice_get-seam old.replies None
@@ -61,11 +62,13 @@ module _ (placed : Placed) (here : ℕ) (old mid : Listed) (here_is : here ≡ l
         ∙ ap (λ k. slice_set (old.replies ++ None ∷ []) k (Some reply)) (here_is ∙ sym p.each)
         ∙ set-append_seam old.replies None [] (Some reply)
 
+    -- the fault stands as the reply of the write that was placed void
     pub there_now : slice_get now.replies here ≡ Some (Some reply)
     there_now = ap (λ (rs : List (Option Reply)). slice_get rs here) told_all
         ∙ ap (λ k. slice_get (old.replies ++ Some reply ∷ []) k) (here_is ∙ sym p.each)
         ∙ slice_get-seam old.replies (Some reply)
 
+    -- a session whose write was just placed void waits for it
     pub waits_here : phase placed.who old.marks ≡ draining → phase placed.who now.marks ≡ waits here
     waits_here drains = ap (phase placed.who) (r.marks ∙ p.marks)
         ∙ phase_more placed.who placed.who old.marks (kinds.Places (length old.history) ∷ [])
@@ -115,6 +118,7 @@ module _ {D : Type 0} (who nth : ℕ) (at : Moment) (counts : Twin) (old new : H
     sessions = places.sessions;
   }
 
+  -- a write that is placed void takes the fault that was kept for its session
   pub takes_fault : kept_for who old.trail.kept ≡ counts ∷ [] → trail.kept ≡ without_session who old.trail.kept
       → trail.events ≡ old.trail.events → trail.acks ≡ old.trail.acks
       → TakesFault who (length (places_of who old.placements.marks)) at counts (seen_parts old) (seen_parts new)

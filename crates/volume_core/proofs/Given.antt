@@ -30,11 +30,13 @@ gives one next old new at tells single = by (one old) refl single
 
 -- ---- one fault at most
 
+-- where a session has one fault at most, the first that is found is all it has
 pub the_one : (kept : List Twin) (counts : Twin) → length kept ≤ 1 → Some counts ≡ first_of kept → kept ≡ counts ∷ []
 the_one [] counts few is = absurd (cc)
 the_one (t ∷ []) counts few is = let same : counts ≡ t = cc in ap (λ (c : Twin). c ∷ []) (sym same)
 the_one (t ∷ u ∷ kept) counts few is = absurd (omega (arith, few))
 
+-- where no fault is found, the session has none
 pub no_one : (kept : List Twin) → None ≡ first_of kept → kept ≡ []
 no_one [] is = refl
 no_one (t ∷ kept) is = absurd (cc)

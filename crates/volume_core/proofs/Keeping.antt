@@ -28,6 +28,7 @@ module _ {D : Type 0} (drive : Ghosts D) (v : View D) where
   abbrev safe : ClosesAreSafe drive
   safe = closes_are_safe drive
 
+  -- what a crash leaves of the volume over its close, as is promised
   abbrev pub Survives : D → Type 0
   Survives d = SurvivesCrashes cartridges (carried v.fixed.mounted.index) (tree_after v) (length v.history) v.acks
       (seen_by drive d).leavings v.fixed.since
@@ -35,6 +36,7 @@ module _ {D : Type 0} (drive : Ghosts D) (v : View D) where
   module _ (planned : Planned) where
     -- ---- ops
 
+    -- ops that are done leave the volume closing, with those that are left
     pub does_keep : (ops left : List Op) (old new : D) → DoesOps drive ops old left new
         → IsClosing drive v planned ops old → IsClosing drive v planned left new
     does_keep _ _ _ _ (closing.rest ops d) c = c
@@ -48,6 +50,7 @@ module _ {D : Type 0} (drive : Ghosts D) (v : View D) where
         (safe.failed planned v fails.op fails.later counts fails.mid new
         (does_keep ops (fails.op ∷ fails.later) old fails.mid fails.before c) fails.failed)
 
+    -- a crash within the ops of a close leaves what is promised
     pub ops_survive : (ops : List Op) (old new : D) (result : Result Unit Twin) → AreOpsDone drive ops old new result
         → IsClosing drive v planned ops old → Survives new
     ops_survive ops old new (Ok done) does c = safe.survives planned v [] new (does_keep ops [] old new does c)
@@ -55,6 +58,7 @@ module _ {D : Type 0} (drive : Ghosts D) (v : View D) where
 
     -- ---- notes
 
+    -- a note that is written, or fails, leaves the volume closing
     pub note_keeps : (part : Part) (values : Coherency) (old new : D) (result : Result Unit Twin) (c : Cartridge)
         → IsNoteWritten drive part values old new result → IsClosing drive v planned [] old → IsAtRest drive old
         → drive.held old ≡ Some c → values.vcr ≡ c.vcr → TellsOfLast c planned.labels.ip part values
@@ -106,6 +110,7 @@ module _ {D : Type 0} (drive : Ghosts D) (v : View D) where
     notes_if false lasts old new result c w is rest told may =
         subst (λ (d : D). IsClosing drive v planned [] d) (sym w.0) is
 
+    -- a crash within any command of a close leaves what is promised
     pub ends_survive : (ops : List Op) (lasts : Lasts) (due : Bool) (old new : D) (result : Result Unit Twin)
         → EndsWith drive ops lasts due old new result → IsClosing drive v planned ops old
         → AreReady drive v planned ops lasts old → Survives new

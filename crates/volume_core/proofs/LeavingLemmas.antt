@@ -65,6 +65,7 @@ module _ {D : Type 0} (drive : Ghosts D) (fixed : Fixed D) (one next : Option Mo
 module _ {D : Type 0} (drive : Ghosts D) (fixed : Fixed D) (one next : Option Moment) (p : Parts D) (v : View D)
     (serving : IsServing drive fixed one next p) (is : view_of fixed (next_moment one next) p ≡ v)
     (nothing : NothingWaits (greatest_session v.fixed.script) v.marks) where
+  -- a volume in which nothing waits can be closed
   pub to_close : (at : Moment) → IfSome (next_moment one next) (λ m. at ≡ m) → IsToClose drive at p
   to_close at moment = record {
     fixed = fixed;
@@ -94,6 +95,7 @@ module _ {D : Type 0} (drive : Ghosts D) (law : ClosesEnd drive) (fixed : Fixed 
   ended noted at new log outcome step_count travel_sum nodes same moment c =
       law fixed (next_moment one next) at p noted new outcome (can_close at moment c.good) same c.finishes
 
+  -- a close that is done leaves the run's own indexes on top
   pub leaves_own : (noted : Bool) (at : Moment) (new : D) (log : Log) (outcome : CloseEnd)
       (step_count travel_sum nodes : ℕ) → noted ≡ fixed.mounted.noted → IfSome (next_moment one next) (λ m. at ≡ m)
       → IsClosed drive noted at p new log outcome step_count travel_sum nodes → LeavesOwnIndexes drive v new outcome
@@ -101,6 +103,7 @@ module _ {D : Type 0} (drive : Ghosts D) (law : ClosesEnd drive) (fixed : Fixed 
       subst (λ (w : View D). LeavesOwnIndexes drive w new outcome) is
       (ended noted at new log outcome step_count travel_sum nodes same moment c).own
 
+  -- a close gives all that is promised of it
   pub closes : (noted : Bool) (at : Moment) (new : D) (log : Log) (outcome : CloseEnd) (step_count travel_sum nodes : ℕ)
       → noted ≡ fixed.mounted.noted → IfSome (next_moment one next) (λ m. at ≡ m)
       → IsClosed drive noted at p new log outcome step_count travel_sum nodes

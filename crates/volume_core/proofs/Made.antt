@@ -24,24 +24,29 @@ use Rattle.volume_core.proofs.Ready.{can_hand, can_step, drains_ready, hands_the
 -- ---- what the calls need
 
 module _ {D : Type 0} (drive : Ghosts D) (old : Held D) (runs : Runs drive (seen_parts old)) where
+  -- before a step, the reply for which a session waits can be handed out
   pub hands_first : (ticket : ℕ) → (who : ℕ) × (phase who (seen_parts old).listed.marks ≡ waits ticket)
       → CanHand ticket (seen_parts old)
   hands_first ticket w = can_hand drive runs.fixed runs.next (seen_parts old) runs.runs w.0 ticket w.1
 
+  -- before a step, a session's drain may end
   pub ends_first : (who : ℕ) → phase who (seen_parts old).listed.marks ≡ draining
       → length (places_of who (seen_parts old).listed.marks) < 2 ^ 32 → CanEnd who (seen_parts old)
   ends_first who drains few = can_end drive runs.fixed runs.next (seen_parts old) runs.runs who drains few
 
   module _ (before : Held D) (same : before ≡ old) where
+    -- before a step, the step can be made
     pub steps_can : CanStep drive (seen_parts before)
     steps_can = subst (λ (p : Held D). CanStep drive (seen_parts p)) (sym same)
         (can_step drive runs.fixed runs.next (seen_parts old) runs.runs)
 
+    -- where the reply of a session that waits isn't there, the head has something to do
     pub steps_waiting : (ticket : ℕ) → slice_get (seen_parts old).listed.replies ticket ≡ Some None
         → IsReady drive (seen_parts before)
     steps_waiting ticket yet = subst (λ (p : Held D). IsReady drive (seen_parts p)) (sym same)
         (waits_ready drive runs.fixed runs.next (seen_parts old) runs.runs ticket yet)
 
+    -- where a session that drains has no room, the head has something to do
     pub steps_draining : (who : ℕ) → phase who (seen_parts old).listed.marks ≡ draining → IsFull who (seen_parts old)
         → IsReady drive (seen_parts before)
     steps_draining who drains full = subst (λ (p : Held D). IsReady drive (seen_parts p)) (sym same)
@@ -58,6 +63,7 @@ module _ {D : Type 0} (drive : Ghosts D) (old : Held D) (runs : Runs drive (seen
       marks : (seen_parts mid).listed.marks ≡ (seen_parts old).listed.marks
       marks = (shown drive runs.fixed runs.next (seen_parts old) runs.runs (seen_parts mid) stepped.0 stepped.1).0.marks
 
+      -- after a step, the reply for which a session waits can be handed out
       pub hands_again : (ticket : ℕ) → (who : ℕ) × (phase who (seen_parts old).listed.marks ≡ waits ticket)
           → CanHand ticket (seen_parts mid)
       hands_again ticket w =
@@ -83,6 +89,7 @@ module _ {D : Type 0} (drive : Ghosts D) (old : Held D) (runs : Runs drive (seen
           (more stepped.0 stepped.1 yet)
 
       module _ (who : ℕ) (drains : phase who (seen_parts old).listed.marks ≡ draining) where
+        -- after a step, a session's drain may end
         pub ends_again : length (places_of who (seen_parts old).listed.marks) < 2 ^ 32 → CanEnd who (seen_parts mid)
         ends_again few =
             ends_on drive runs.fixed runs.next (seen_parts old) runs.runs who drains few (seen_parts mid) stepped.0 stepped.1

@@ -49,6 +49,7 @@ module _ {D : Type 0} (drive : Ghosts D) where
 
   -- ---- ops
 
+  -- the first op of a close may be done
   pub may_first : (ops : List Op) (op : Op) (later : List Op) (d : D) → MayDoAll drive ops d → ops ≡ op ∷ later
       → MayDo drive op d
   may_first ops op later d may first c told = ⊎_elim
@@ -58,6 +59,7 @@ module _ {D : Type 0} (drive : Ghosts D) where
       (subst (λ (l : List Op). IsClosing drive it.view it.planned l d) first it.closing) c told)
       (may c told)
 
+  -- once the first op of a close is done, the others may be done
   pub may_go_on : (standing left later : List Op) (op : Op) (mid new : D) → MayDoAll drive standing mid
       → standing ≡ op ∷ later → IsOneDone drive op later left mid new (Ok tt) → MayDoAll drive left new
   may_go_on standing left later op mid new may first did =
@@ -72,6 +74,7 @@ module _ {D : Type 0} (drive : Ghosts D) where
       })
       may
 
+  -- where a close may end, its ops may be done
   pub may_do : (ops : List Op) (lasts : Lasts) (d : D) → MayEnd drive ops lasts d → MayDoAll drive ops d
   may_do ops lasts d may c told = ⊎_elim
       (λ (all : AllowsAll drive.allows). inl all)
@@ -80,6 +83,7 @@ module _ {D : Type 0} (drive : Ghosts D) where
 
   -- ---- notes
 
+  -- where all ops of a close are done, its notes may be written
   pub may_write : (ops : List Op) (lasts : Lasts) (old mid : D) → MayEnd drive ops lasts old
       → DoesOps drive ops old [] mid → MayWriteNotes drive lasts mid
   may_write ops lasts old mid may does =
@@ -97,6 +101,7 @@ module _ {D : Type 0} (drive : Ghosts D) where
       })
       may
 
+  -- with the reference that was read, the note of the index partition may be written
   pub may_ip : (lasts : Lasts) (vcr : ℕ) (old mid : D) → MayWriteNotes drive lasts old
       → IsVcrRead drive old mid (Ok vcr) → MayWriteNote drive Ip (values_of lasts vcr lasts.on_ip) mid
   may_ip lasts vcr old mid may read note c has told =
@@ -110,6 +115,7 @@ module _ {D : Type 0} (drive : Ghosts D) where
       (read_rests drive old mid (Ok vcr) read it.rest) told has (read.value c here) (it.tells.ip vcr))
       (may c here)
 
+  -- behind that note, the note of the data partition may be written
   pub may_dp : (lasts : Lasts) (vcr : ℕ) (old first second : D) → MayWriteNotes drive lasts old
       → IsVcrRead drive old first (Ok vcr)
       → IsNoteWritten drive Ip (values_of lasts vcr lasts.on_ip) first second (Ok tt)
@@ -140,6 +146,7 @@ module _ {D : Type 0} (drive : Ghosts D) where
       ))
       may
 
+  -- that note is written where the data partition has an index
   pub may_dp_note : (lasts : Lasts) (vcr block : ℕ) (d : D) → MayWriteDpNote drive lasts vcr d
       → lasts.on_dp ≡ Some block → MayWriteNote drive Dp (values_of lasts vcr block) d
   may_dp_note lasts vcr block d may is note c has told = ⊎_elim
@@ -176,11 +183,13 @@ module _ {D : Type 0} (drive : Ghosts D)
       (λ b c is told it. gives it.0 (view_allowed it.1)) can.runs.allowed
 
   module _ (mid : Stocked) (dp : AdmitsOnDp at p.stock mid) where
+    -- without room on the index partition, the ops that stand may still be done
     pub may_short : MayDoAll drive mid.layout.ops p.drive
     may_short = served_or (IsAllowedClose drive mid.layout.ops p.drive) (λ serve allowed.
         let it = mid_closing drive fixed next at p can counts_now serve mid dp in
         record { planned = it.0; view = v; allowed = allowed; closing = it.1 })
 
+    -- where both indexes were admitted, a close may end
     pub may_end : (last : Stocked) (due : Bool) → AdmitsOnIp at p.stock mid last due
         → MayEnd drive last.layout.ops (lasts_of mid) p.drive
     may_end last due ip = served_or (IsAllowedEnd drive last.layout.ops (lasts_of mid) p.drive) (λ serve allowed.

@@ -28,25 +28,32 @@ module _ {D : Type 0} (drive : Ghosts D) (fixed : Fixed D) (next : Option Moment
   stock : IsStock (tape_on tape) (g drive fixed next at p) (on drive fixed next at p) (st1 drive fixed next at p) mid
   stock = done.stands (tape_on tape) (λ part pos byte t. refl)
 
+  -- the index that was admitted on the data partition fits the space
   pub fits : is_over (rules (g drive fixed next at p)) (on drive fixed next at p) (st drive fixed next at p).space
       (close_ask (g drive fixed next at p) (st drive fixed next at p) at) ≡ false
   fits = done.fits
 
+  -- the ops that stand then are those before and those of that index
   pub mid_ops : mid.layout.ops ≡ p.stock.layout.ops ++ asked drive fixed next at p
   mid_ops = done.ops
 
+  -- the generation then is that of the space behind that index
   pub mid_generation : mid.frame.generation ≡ (st1 drive fixed next at p).space.newest
   mid_generation = ap (λ f. f.generation) stock.frame
 
+  -- the last index of the data partition then is that of the space
   pub mid_last : mid.frame.last_dp ≡ (st1 drive fixed next at p).space.last_dp
   mid_last = ap (λ f. f.last_dp) stock.frame
 
+  -- the label then is the one that was mounted
   pub mid_uuid : mid.frame.label.uuid ≡ fixed.mounted.label.uuid
   mid_uuid = ap (λ f. f.label.uuid) stock.frame
 
+  -- the first block of the index partition's index stands then where the space says
   pub mid_end : mid.layout.ends.ip + 1 ≡ (st1 drive fixed next at p).space.ends.ip + 1
   mid_end = ap (λ (l : Plan). l.ends.ip + 1) stock.layout
 
+  -- what is admitted on the index partition then is what the space admits
   pub admitted_ip : (last : Stocked) (due : Bool) → AdmitsOnIp at p.stock mid last due
       → IsAdmittedOnIp (g drive fixed next at p) (st1 drive fixed next at p) at mid last due
   admitted_ip last due ip = ip (tape_on tape) (g drive fixed next at p) (on drive fixed next at p)

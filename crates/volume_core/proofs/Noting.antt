@@ -48,6 +48,7 @@ module _ (c d : Cartridge) (label : Label) (ip_is : d.ip ≡ c.ip) (dp_is : d.dp
   pub tells_same : (part : Part) (note : Coherency) → TellsOfLast c label part note → TellsOfLast d label part note
   tells_same = last_same
 
+  -- notes may tell of a cartridge what they tell of another with the same items
   pub may_tell : (lasts : Lasts) → MayTell c label lasts → MayTell d label lasts
   may_tell lasts may = record {
     ip = λ vcr. last_same Ip (values_of lasts vcr lasts.on_ip) (may.ip vcr);
@@ -57,16 +58,19 @@ module _ (c d : Cartridge) (label : Label) (ip_is : d.ip ≡ c.ip) (dp_is : d.dp
 -- ---- each command
 
 module _ {D : Type 0} (drive : Ghosts D) where
+  -- reading the reference leaves nothing new
   pub read_step : (old new : D) (result : Result ℕ Twin) (c : Cartridge) → IsVcrRead drive old new result
       → IsStep NothingNew (moment_of drive old c) (moment_of drive new c)
   read_step old new result c read = (read.command.commands.later, read.crash)
 
+  -- reading the reference leaves a drive at rest
   pub read_rests : (old new : D) (result : Result ℕ Twin) → IsVcrRead drive old new result → IsAtRest drive old
       → IsAtRest drive new
   read_rests old new result read rest held told image left =
       let was = read.crash.now image left in
       was.2 ∙ rest held (sym read.held ∙ told) was.0 was.1
 
+  -- writing a note leaves what a note's write may leave
   pub note_step : (part : Part) (values : Coherency) (old new : D) (result : Result Unit Twin) (c d : Cartridge)
       → (w : IsNoteWritten drive part values old new result) → drive.held old ≡ Some c
       → IsStep (WithinNote part w.note) (moment_of drive old c) (moment_of drive new d)
@@ -78,6 +82,7 @@ module _ {D : Type 0} (drive : Ghosts D) where
   note_either (Ok done) part note c d is = inr is
   note_either (Err counts) part note c d either = either
 
+  -- a note that was written leaves a drive at rest
   pub note_rests : (part : Part) (values : Coherency) (old new : D) (c : Cartridge)
       → IsNoteWritten drive part values old new (Ok tt) → IsAtRest drive old → drive.held old ≡ Some c
       → IsAtRest drive new

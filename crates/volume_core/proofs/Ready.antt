@@ -79,6 +79,7 @@ module _ {D : Type 0} (drive : Ghosts D) (fixed : Fixed D) (next : Option Moment
     (runs : IsRunning drive fixed next p) where
   -- ---- a step
 
+  -- a volume that runs can make its next step
   pub can_step : CanStep drive p
   can_step = steps_can_be_made drive fixed runs.plan runs.planned next p runs.kept runs.tied runs.allowed
 
@@ -117,10 +118,12 @@ module _ {D : Type 0} (drive : Ghosts D) (fixed : Fixed D) (next : Option Moment
   -- ---- what a step leaves
 
   module _ (mid : Parts D) (added : List Event) (on : StepsOn drive added p mid) where
+    -- a step of a volume that runs shows all that is asked of it
     pub shown : Stepped drive fixed (view_of fixed next p) (view_of fixed next mid) added
         × IsTied drive fixed runs.planned mid
     shown = steps_show drive fixed runs.plan runs.planned next p mid added runs.kept runs.tied on.steps
 
+    -- so it can be after a step too
     pub hands_then : (ticket : ℕ) → CanHand ticket p → CanHand ticket mid
     hands_then ticket can =
         hands_on ticket p mid can shown.0.history shown.0.marks (shown.1.sessions ∙ sym runs.tied.sessions)
@@ -130,6 +133,7 @@ module _ {D : Type 0} (drive : Ghosts D) (fixed : Fixed D) (next : Option Moment
   -- ---- a reply
 
   module _ (who : ℕ) (busy : phase who p.listed.marks ≡ idle → ⊥) where
+    -- a session that waits or drains is one of the script
     pub of_script : (1 ≤ who) × (who ≤ greatest_session fixed.script)
     of_script = marked (λ w. (1 ≤ w) × (w ≤ greatest_session fixed.script)) who p.listed.marks
         runs.kept.order.orderly.marks.sessions_are busy
@@ -147,6 +151,7 @@ module _ {D : Type 0} (drive : Ghosts D) (fixed : Fixed D) (next : Option Moment
     known : (1 ≤ placed_here.0.who) × (placed_here.0.who ≤ greatest_session fixed.script)
     known = of_script placed_here.0.who (λ rests. let no : waits ticket ≡ idle = sym waits_for ∙ rests in cc)
 
+    -- the reply for which a session waits can be handed out
     pub can_hand : CanHand ticket p
     can_hand = record {
       placed = placed_here.0;

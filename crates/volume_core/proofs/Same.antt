@@ -24,6 +24,7 @@ use Rattle.cartridge_meaning.specs.declared.labels.Labels.{Labels}
 use Rattle.cartridge_meaning.proofs.Frame.{labels_stay, reads_stays}
 
 module _ (c d : Cartridge) (ip : d.ip ≡ c.ip) (dp : d.dp ≡ c.dp) where
+  -- the labels of a cartridge are those of another with the same items
   pub same_labels : (l : Labels) → HasLabels c l → HasLabels d l
   same_labels l has = labels_stay c d l (ap (λ (x : List Item). take 4 x) (sym ip))
       (ap (λ (x : List Item). take 4 x) (sym dp)) has
@@ -80,6 +81,7 @@ module _ (c d : Cartridge) (ip : d.ip ≡ c.ip) (dp : d.dp ≡ c.dp) where
   tree_same : (label : Label) (index : Index) (tree : Tree) → IsTreeOf label c index tree → IsTreeOf label d index tree
   tree_same label index tree h = (h.0, h.1, h.2 ∙ ap (λ (tape : Tape). plain_of tape h.0) tape_same)
 
+  -- what a cartridge stands for another with the same items stands for
   pub same_stands : (facts : Carried) (tree : Tree) (n : ℕ) → Stands c facts tree n → Stands d facts tree n
   same_stands facts tree n s =
       let f = s.reads.found in
@@ -88,6 +90,7 @@ module _ (c d : Cartridge) (ip : d.ip ≡ c.ip) (dp : d.dp ≡ c.dp) where
         has_index = λ none. s.has_index (ap indexes_of (sym dp) ∙ none);
       }
 
+  -- a cartridge with the items of one that is consistent is consistent
   pub same_consistent : IsConsistent c → IsConsistent d
   same_consistent h = record {
     found = found_here h.found;
@@ -104,6 +107,7 @@ module _ (c d : Cartridge) (ip : d.ip ≡ c.ip) (dp : d.dp ≡ c.dp) where
     back = h.back;
   }
 
+  -- a cartridge with the items of one whose partitions tell the same tells the same
   pub same_alike : (facts : Carried) (tree : Tree) (n : ℕ) → AreAlike c facts tree n → AreAlike d facts tree n
   same_alike facts tree n h = record {
     found = found_here h.found;
@@ -119,5 +123,6 @@ module _ (c d : Cartridge) (ip : d.ip ≡ c.ip) (dp : d.dp ≡ c.dp) where
     dp_tree = tree_same h.found.labels.ip h.dp_index tree h.dp_tree;
   }
 
+  -- a cartridge with the items of one that has one index has one
   pub same_one : HasOneIndex c → HasOneIndex d
   same_one one = subst (λ (x : List Item). IsOneAtMost x (indexes_of x)) (sym ip) one

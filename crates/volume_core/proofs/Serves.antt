@@ -102,6 +102,7 @@ module _ {D : Type 0} (drive : Ghosts D)
   module _ (ticket : ℕ) (answer : Turn) (new : Parts D)
       (to : (who : ℕ) → phase who old.listed.marks ≡ waits ticket → TurnsTo drive who ticket old new answer)
       (v : View D) (is : view_of fixed now old ≡ v) where
+    -- a turn of a session that waits adds what is promised of it
     pub turn_adds : (who : ℕ) → phase who v.marks ≡ waits ticket
         → Turns drive.MOST (seen drive v.drive) (seen drive new.drive) v (view_of fixed now new) who ticket answer
     turn_adds who =
@@ -109,6 +110,7 @@ module _ {D : Type 0} (drive : Ghosts D)
         → Turns drive.MOST (seen drive u.drive) (seen drive new.drive) u (view_of fixed now new) who ticket answer) is
         (λ waiting. (turned who ticket answer new waiting (to who waiting)).0)
 
+    -- after a turn of a session that waits the volume is served on
     pub turn_serves_on : (who : ℕ) × (phase who v.marks ≡ waits ticket) → ServesOn drive fixed one next old new
     turn_serves_on some =
         let waiting = subst (λ (u : View D). phase some.0 u.marks ≡ waits ticket) (sym is) some.1 in
@@ -200,6 +202,7 @@ module _ {D : Type 0} (drive : Ghosts D)
     pub draining_is : phase who old.listed.marks ≡ draining
     draining_is = subst (λ (u : View D). phase who u.marks ≡ draining) (sym is) drains
 
+    -- a turn of a session that drains adds what is promised of it
     pub drain_adds : DrainsOnce drive.MOST (seen drive v.drive) (seen drive new.drive) v
         (view_of fixed (next_moment one_after after) new) who answer
     drain_adds =
@@ -207,5 +210,6 @@ module _ {D : Type 0} (drive : Ghosts D)
         (view_of fixed (next_moment one_after after) new) who answer) is
         (drain_serves who one_after after new draining_is answer to).0
 
+    -- after a turn of a session that drains the volume is served on
     pub drain_serves_on : ServesOn drive fixed one_after after old new
     drain_serves_on = serves one_after after new (drain_serves who one_after after new draining_is answer to).1

@@ -55,6 +55,7 @@ module _ {D : Type 0} (drive : Ghosts D) where
       (subst (λ (e : StepDone). IsOpStep drive (the_ops.Flush place) e old mid) (flushed_end end flush.ends well)
       flush))
 
+  -- behind ops that end with a flush nothing is pending
   pub rests_behind : (before front : List Op) (place : Place) (old new : D)
       → DoesOps drive (before ++ (front ++ the_ops.Flush place ∷ [])) old [] new → IsAtRest drive new
   rests_behind before front place old new does =

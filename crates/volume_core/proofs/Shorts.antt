@@ -27,11 +27,13 @@ module _ (tape : Tape) (g : Given) (on : Option ℕ) (history : List Placed) (at
   abbrev st : Standing
   st = standing g on history (length history)
 
+  -- a close without room on the data partition is short by the space's numbers
   pub dp_short : (need limit : ℕ) → told.IsShortOnDp at held need limit → IsDpShort g on_now st at need limit
   dp_short need limit short =
       let full = short tape g on_now st stock in
       record { over = full.over; need_is = full.need_is; limit_is = full.limit_is }
 
+  -- a close without room on the data partition is short by the history's numbers
   pub short_on_dp : (need limit : ℕ) → told.IsShortOnDp at held need limit → IsCloseShort g on history at need limit
   short_on_dp need limit short = inl (dp_short need limit short)
 
@@ -39,6 +41,7 @@ module _ (tape : Tape) (g : Given) (on : Option ℕ) (history : List Placed) (at
   pub fits_dp : (mid : Stocked) → AdmitsOnDp at held mid → IsShortOnDp g on history at → ⊥
   fits_dp mid admits short = not_both _ short.2.over (admits tape g on_now st stock).fits
 
+  -- a close without room on the index partition is short by the history's numbers
   pub short_on_ip : (need limit : ℕ) (mid : Stocked) → AdmitsOnDp at held mid → IsShortOnIp at held need limit
       → IsCloseShort g on history at need limit
   short_on_ip need limit mid admits short =
@@ -60,6 +63,7 @@ module _ (tape : Tape) (g : Given) (on : Option ℕ) (history : List Placed) (at
       not_over (close_limit g) (close_need g (closed_dp g on_now st at) at) over admitted.1.fits
   fits_ip mid last false admitted is over = not_both _ is admitted.0
 
+  -- a close whose indexes were admitted isn't short
   pub not_short : (mid last : Stocked) (due : Bool) → AdmitsOnDp at held mid → AdmitsOnIp at held mid last due
       → (need limit : ℕ) → IsCloseShort g on history at need limit → ⊥
   not_short mid last due dp ip need limit short =

@@ -68,19 +68,24 @@ dp_chosen c (Some i) (Some d) x some is place = by (nat_lt d.generation i.genera
 
 module _ (c : Cartridge) (m : Mounted) (mounts : Mounts c m) (ip_done : m.ip_done ≡ true)
     (dp_done : m.dp_done ≡ true) where
+  -- what was found of the cartridge at the mount
   abbrev pub f : Found c
   f = mounts.found
 
+  -- the index partition was done at the mount
   pub ip_is : IsIpDone c mounts.found
   ip_is = mounts.ip_done.0 ip_done
 
+  -- the data partition was done at the mount
   pub dp_is : IsDpDone c mounts.found
   dp_is = mounts.dp_done.0 dp_done
 
+  -- the index that was mounted is the last of the data partition
   pub on_dp_is : mounts.found.on_dp ≡ Some mounts.found.index
   on_dp_is = dp_chosen c mounts.found.on_ip mounts.found.on_dp mounts.found.index ip_is.has_dp mounts.found.choice
       dp_is.choice
 
+  -- the data partition ends with that index
   pub dp_last : IsLastOnDp mounts.found.labels.ip (indexes_of c.dp) (Some mounts.found.index)
   dp_last = subst (λ (o : Option Index). IsLastOnDp mounts.found.labels.ip (indexes_of c.dp) o) on_dp_is
       mounts.found.dp_last
@@ -116,6 +121,7 @@ module _ (c : Cartridge) (m : Mounted) (mounts : Mounts c m) (ip_done : m.ip_don
 
 -- ---- a close at which none is due
 
+-- where neither of two holds, the first doesn't
 pub or_left : (a b : Bool) → (a || b) ≡ false → a ≡ false
 or_left false b is = refl
 or_left true b is = is
@@ -162,6 +168,7 @@ module _ {D : Type 0} (drive : Ghosts D) (fixed : Fixed D) (next : Option Moment
       let same_held = ((can.runs.closes.tape read).untouched same none).1 in
       read.sure image start ∙ same_Some read.held held (sym read.told ∙ sym same_held ∙ told)
 
+  -- where no index is due on the index partition, nothing was asked of the tape since the mount
   pub still : is_ip_due g (admitted.st1 drive fixed next at p).space ≡ false → IsStill drive fixed next at p
   still not_ip = by (is_dp_due g st.space) refl
       (or_left (admitted.st1 drive fixed next at p).space.admitted (not fixed.mounted.ip_done) not_ip)

@@ -38,6 +38,7 @@ use Rattle.volume_core.specs.Turns.{Gives, SubmitsAt, Told, told}
 
 -- ---- the clock
 
+-- a clock that was asked gave this moment, and still gives its one moment
 pub asked_once : {C : Type 0} (one next : C → Option Moment) (old new : C) (at : Moment)
     → IfSome (next old) (λ m. at ≡ m)
     → IfSome (one old) (λ m. (at ≡ m) × (new ≡ old)) → Gives (told (one old) (next old)) (told (one new) (next new)) at
@@ -71,15 +72,18 @@ void_at drive who nth call at before after result old mid new can gives reserves
 many_of : (write : Bool) (n : ℕ) → (write && nat_lt 64 n) ≡ true → 64 < n
 many_of write n is = ltb-true 64 n (and_parts write (nat_lt 64 n) is).1
 
+-- a write is put off only where more than 64 ops stand
 pub is_many : (off write : Bool) (n : ℕ) → off ≡ (write && nat_lt 64 n) → off ≡ true → 64 < n
 is_many off write n is so = many_of write n (sym is ∙ so)
 
+-- a write that is put off is answered with a drain or want of memory
 pub put_off_now : (off now : Bool) (result : Submitted) → off ≡ now → off ≡ true
     → (result ≡ submitted.Drain) ⊎ (result ≡ submitted.Ready replies.NoMemory) → model.PutsOff now result
 put_off_now off now result is so ends = record { only = λ drains. sym is ∙ so; each = λ again. ends }
 
 -- ---- a call that is placed
 
+-- a submission that places its call asks the clock once
 pub placed_at : {D : Type 0} (drive : Ghosts D) (who nth : ℕ) (call : Call) (at : Moment) (before after : Told)
     (result : Submitted) (old new : Parts D) → result ≢ submitted.Drain → Gives before after at
     → IsSubmitted drive who nth at old new call result → SubmitsAt drive who nth call before after old new result
@@ -87,6 +91,7 @@ placed_at drive who nth call at before after (submitted.Ready reply) old new pla
 placed_at drive who nth call at before after (submitted.Wait ticket) old new placed gives is = (at, gives, is)
 placed_at drive who nth call at before after submitted.Drain old new placed gives is = absurd (placed refl)
 
+-- a call that isn't put off doesn't drain
 pub not_put_off : (off now : Bool) (result : Submitted) → off ≡ now → off ≡ false → result ≢ submitted.Drain
     → model.PutsOff now result
 not_put_off off now result is not_so placed = record {
@@ -222,6 +227,7 @@ module _ {D : Type 0} (drive : Ghosts D)
 
 -- ---- the call of a volume
 
+-- a volume that is the same may be asked for the same call
 pub can_of : {D : Type 0} {v w : View D} (who nth : ℕ) → v ≡ w → CanSubmit w who nth → CanSubmit v who nth
 can_of {D} who nth is can = subst (λ (v : View D). CanSubmit v who nth) (sym is) can
 
@@ -241,6 +247,7 @@ pub record Serves {D : Type 0} (drive : Ghosts D) (fixed : Fixed D) (before afte
   pub serving : IsServing drive fixed after.one after.next new
   pub calls : new.listed.calls ≡ old.listed.calls
 
+-- after a submission the volume is served on, with what that adds
 pub serves : {D : Type 0} (drive : Ghosts D)
     (only_now : (d : D) (image : Cartridge) → drive.commands d < 2 ^ 64 - 1
     → drive.left_since d (drive.commands d) image

@@ -77,9 +77,11 @@ module _ {D : Type 0} (drive : Ghosts D) (fixed : Fixed D) (next : Option Moment
   abbrev ops1 : List Op
   ops1 = p.stock.layout.ops ++ asked
 
+  -- the ops of the index that a close writes on the index partition
   abbrev pub closing_ops : List Op
   closing_ops = construct fixed.mounted.label.block Ip st1.space.ends.ip (close_text g st1 at)
 
+  -- what is planned once that index is admitted too
   abbrev pub planned2 : Items
   planned2 = with_ops closing_ops planned1
 
@@ -87,6 +89,7 @@ module _ {D : Type 0} (drive : Ghosts D) (fixed : Fixed D) (next : Option Moment
   pub has_index : is_dp_due g st.space ≡ false → HasDpIndex v st.space
   has_index is = has_by st.space.changed fixed.mounted.dp_done st.space.admitted is
 
+  -- the data partition ends where it is planned to, before that index
   pub dp_whole : CanRead drive fixed → (c : Cartridge) → drive.held p.drive ≡ Some c → IsWhole Dp planned1 ops1 c
   dp_whole read c told = by (is_dp_due g st.space) refl
     where
@@ -98,6 +101,7 @@ module _ {D : Type 0} (drive : Ghosts D) (fixed : Fixed D) (next : Option Moment
       by false is = whole_grows Dp planned p.stock.layout.ops [] c
           ((can.runs.closes.tape read).whole (has_index is) c told)
 
+  -- the cartridge is on its way to what is planned, before that index
   pub way_now : (c : Cartridge) → drive.held p.drive ≡ Some c → IsOnWay planned1 ops1 c
   way_now c told = ways_go_on.grows planned p.stock.layout.ops asked c (can.runs.tied.way c told)
       (admitted.next_ops drive fixed next at p planned can.runs.tied)
@@ -109,6 +113,7 @@ module _ {D : Type 0} (drive : Ghosts D) (fixed : Fixed D) (next : Option Moment
       (index_leads g.limits fixed.mounted.label.block Ip st1.space.ends st1.space.ends.ip (close_text g st1 at)
       (omega (arith, can.runs.tied.mount.blocks.0)) refl room).next
 
+  -- with that index the tape is on its way, and both partitions end where they are planned to
   pub there_last : CanRead drive fixed → close_need g st1 at ≤ close_limit g → (c : Cartridge)
       → drive.held p.drive ≡ Some c → IsThere drive planned2 (ops1 ++ closing_ops) p.drive c
   there_last read room c told = record {

@@ -52,6 +52,7 @@ module _ (g : Given) (on : Option ℕ) where
       (subst (λ (st : Standing). IsFirst first st.space) (sym next)
       (first_placed (is_on g.mounted on (length front)) (standing g on front (length front)) p so))
 
+  -- where nothing changed and no index was admitted, the space is that of the mount
   pub unchanged : (history : List Placed) → (standing g on history (length history)).space.changed ≡ false
       → (standing g on history (length history)).space.admitted ≡ false
       → (standing g on history (length history)).space ≡ first_space g.mounted

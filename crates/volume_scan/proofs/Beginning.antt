@@ -27,6 +27,7 @@ fits : (part : Part) (limits : Limits) (c : Cartridge) → FitsLimits limits c �
 fits Ip limits c f = f.ip.count
 fits Dp limits c f = f.dp.count
 
+-- a partition has room for its labels
 pub least : (part : Part) (limits : Limits) → IsLimits limits → 4 ≤ capacity part limits
 least Ip limits range = range.ip_least
 least Dp limits range = range.dp_least
@@ -34,6 +35,7 @@ least Dp limits range = range.dp_least
 module _ (o : Option Cartridge) (part : Part) (limits : Limits) (r : Reading)
     (long : IfSome o (λ c. 4 ≤ length (front (items_of part c)))) (fit : IfSome o (λ c. FitsLimits limits c))
     (constructs : r.constructs ≡ []) (opened : r.opened ≡ None) (pos : r.pos ≡ 4) where
+  -- a reading begins behind the labels, within the capacity
   pub begins : (c : Cartridge) → o ≡ Some c → (length (items_of part c) ≤ capacity part limits) × IsReadTo (items_of part c) r
   begins c is = (
     fits part limits c (told_of o (λ c. FitsLimits limits c) fit c is),

@@ -48,6 +48,7 @@ front_torn (Mark ∷ items) (suc pos) is = omega (arith, front_torn items pos is
 front_torn (Block b ∷ items) zero is = absurd (cc)
 front_torn (Block b ∷ items) (suc pos) is = omega (arith, front_torn items pos is)
 
+-- where nothing more can be read, the front ends
 pub ended_at : (items : List Item) (pos : ℕ) (x : Option Item) (answer : Got) (buf : List ℕ) → slice_get items pos ≡ x → IsRead x answer buf
     → ends answer ≡ true → length (front items) ≤ pos
 ended_at items pos None answer buf is r e = front_ended items pos is
@@ -103,6 +104,7 @@ mark_seen pos (Some opened) (Index mark (b ∷ blocks)) ks old new at is told go
     )
 mark_seen pos (Some opened) (Bad n) ks old new at is told goes = absurd is
 
+-- an item further the reading stands one position further
 pub moved_pos : (answer : Got) (old new : Reading) → Goes answer old new → new.pos ≡ old.pos + 1
 moved_pos got.Block old new goes = goes.2
 moved_pos got.Mark old new goes = by_opened old.opened goes
@@ -154,6 +156,7 @@ read_mark items old new r is goes =
       constructs = s.2;
     }
 
+-- an item further the reading has told what stands before it
 pub read_on : (items : List Item) (x : Option Item) (answer : Got) (buf : List ℕ) (old new : Reading) → IsReadTo items old
     → slice_get items old.pos ≡ x → IsRead x answer buf → Goes answer old new → IsReadTo items new
 read_on items None answer buf old new r is read goes = absurd (subst (λ (g : Got). Goes g old new) read.0 goes)
@@ -178,6 +181,7 @@ mark_stops items r opened t is begun_is at =
     (ap (λ (s : content.Content). s.phase) (stage_at t.stage r.pos Mark t.pos)
     ∙ bad_seen r.pos opened t.stage.phase t.stage.constructs (subst (λ (o : Option ℕ). IsPhase o r.pos t.stage.phase) begun_is t.phase) at)
 
+-- two marks in a row are where the partition lacks its form
 pub stopped : (items : List Item) (x : Option Item) (buf : List ℕ) (r : Reading) (opened : ℕ) → IsReadTo items r → slice_get items r.pos ≡ x
     → IsRead x got.Mark buf → r.opened ≡ Some opened → r.pos ≡ opened + 1 → (content items).phase ≡ Bad r.pos
 stopped items None buf r opened t is read begun_is at = absurd (let bad = read.0 in cc bad)
@@ -202,6 +206,7 @@ phase_lead (Some opened) pos (Data since) is = absurd is
 phase_lead (Some opened) pos (Index mark blocks) is = sym is.0
 phase_lead (Some opened) pos (Bad n) is = absurd is
 
+-- a reading at the end of the front has read all of it
 pub all_read : (items : List Item) (r : Reading) (found : Content) → IsReadTo items r → length (front items) ≤ r.pos → found.constructs ≡ r.constructs
     → found.lead ≡ lead_at r.opened r.pos → found.front ≡ r.pos → IsAllRead items found
 all_read items r found t le constructs lead front_is =
@@ -217,6 +222,7 @@ all_read items r found t le constructs lead front_is =
       front = front_is ∙ sym t.pos ∙ ap (λ (s : content.Content). s.pos) (sym all);
     }
 
+-- behind the labels nothing is told yet
 pub begun : (items : List Item) (r : Reading) → 4 ≤ length (front items) → r.constructs ≡ [] → r.opened ≡ None → r.pos ≡ 4 → IsReadTo items r
 begun items r long constructs opened pos = record {
   stage = start;
@@ -269,6 +275,7 @@ module _ (capacity : ℕ) (old new : Reading) (lt : old.pos < capacity) where
   lead_rises None = omega arith
   lead_rises (Some mark) = omega arith
 
+  -- an item further all that is told lies in its place
   pub goes_in_order : (answer : Got) → IsInOrder capacity old → Goes answer old new → IsInOrder capacity new
   goes_in_order got.Block order goes = record {
     constructs =
@@ -299,6 +306,7 @@ between_least : (ks : List Construct) (from to : ℕ) → AreBetween from to ks 
 between_least [] from to b = b
 between_least (k ∷ ks) from to b = omega (arith, b.0, b.1, b.2, between_least ks k.after to b.3)
 
+-- a reading behind the labels tells nothing before them
 pub behind_labels : (capacity : ℕ) (r : Reading) → IsInOrder capacity r → 4 ≤ r.pos
 behind_labels capacity r order = omega (arith, between_least r.constructs 4 (lead_at r.opened r.pos) order.constructs, at_most r.opened order.opened)
   where

@@ -52,6 +52,7 @@ one_more n most = omega arith
 times : (m n most : ℕ) → m ≤ n → m * most ≤ n * most
 times m n most le = mul-le-mul_right most le
 
+-- one unit is no more than so many of them
 pub one_of : (n most : ℕ) → 1 ≤ n → most ≤ n * most
 one_of n most le = omega (arith, times 1 n most le)
 
@@ -60,6 +61,7 @@ module _ {D : Type 0} (drive : Ghosts D) (first now : D) (part : Part) (position
   pub looks_now : r.pos ≤ positions → Looks drive ((positions - 4) * drive.MOST) first now
   looks_now le = more_looks drive ((r.pos - 4) * drive.MOST) ((positions - 4) * drive.MOST) first now (times (r.pos - 4) (positions - 4) drive.MOST (omega arith)) going.looks
 
+  -- one read more is within the reads of the whole partition
   pub looks_after : (after : D) → r.pos < positions → Looks drive drive.MOST now after → Looks drive ((positions - 4) * drive.MOST) first after
   looks_after after lt look =
       let count : r.pos - 4 + 1 ≤ positions - 4 = omega (arith, lt, behind_labels positions r going.order) in

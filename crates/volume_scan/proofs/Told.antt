@@ -58,6 +58,7 @@ form_lead : (items : List Item) (f : HasForm items)
 form_lead items f =
     ap (λ (s : content.Content). lead_of s.pos s.phase) (form items f) ∙ lead_is (4 + length (flat_map items_of_group f.groups)) f.lead f.begun
 
+-- what is told of a partition that was read to its end is its content
 pub read_told : (items : List Item) (found : Content) → 4 ≤ length (front items) → IsRead items found → IsContent items found
 read_told items found long r =
     let f = has_form items r.sound in

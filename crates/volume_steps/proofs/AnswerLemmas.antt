@@ -73,6 +73,7 @@ keeps_all old new answered only_syncs = record {
   came = λ k a none is apart. absurd (apart (only_syncs k a none is));
 }
 
+-- where syncs are answered the answers of reads are kept
 pub synced_keep : {D : Type 0} (tickets : List ℕ) (old new : Parts D) → new.answered ≡ old.answered
     → new.listed.replies ≡ all_synced tickets old.listed.replies → KeepsAnswers old new
 synced_keep tickets old new answered told = keeps_all old new answered (λ k a none is. by k a none is (all_told tickets old.listed.replies k))
@@ -108,10 +109,12 @@ same_replies old new told k a none is =
     let wrong : Some (Some (the_replies.Answer a)) ≡ Some None =
     sym is ∙ ap (λ (rs : List (Option Reply)). slice_get rs k) told ∙ none in cc
 
+-- where a request failed the answers of reads are kept
 pub missed_keeps : {D : Type 0} (ticket : ℕ) (counts : Twin) (old new : Parts D) → new.answered ≡ old.answered
     → new.listed.replies ≡ replied ticket (the_replies.Fault counts) old.listed.replies → KeepsAnswers old new
 missed_keeps ticket counts old new answered told = keeps_all old new answered (no_answer ticket counts old new told)
 
+-- where an op failed the answers of reads are kept
 pub fault_keeps : {D : Type 0} (waiter : Option Waiter) (counts : Twin) (old new : Parts D) → new.answered ≡ old.answered
     → new.listed.replies ≡ told_fault waiter counts old.listed.replies → KeepsAnswers old new
 fault_keeps (Some (waiters.Sync ticket)) counts old new answered told = missed_keeps ticket counts old new answered told
@@ -203,6 +206,7 @@ read_on ticket gives old new right none answered told = record {
         let wrong : Some (Some (the_replies.Answer a)) ≡ Some None =
         sym is ∙ ap (λ (rs : List (Option Reply)). slice_get rs k) told ∙ there ∙ empty in cc
 
+-- where a read is answered its answer is kept with the others
 pub read_keeps : {D : Type 0} (ticket : ℕ) (waits : Bool) (front behind : List Gathering) (next : Gathering) (old new : Parts D)
     → AreRight old → slice_get old.listed.replies ticket ≡ Some None → KeepsAnswer waits ticket old new
     → IsReadOn waits ticket front behind next new.reads old.listed.replies new.listed.replies → KeepsAnswers old new

@@ -71,6 +71,7 @@ nothing_asked : (r : Option Refusal) → ask_unless r nothing ≡ nothing
 nothing_asked None = refl
 nothing_asked (Some why) = refl
 
+-- a read that is refused is answered so
 pub read_refused : {D : Type 0} (drive : Ghosts D) (who nth : ℕ) (path : List (List ℕ)) (offset count : ℕ) (at : Moment) (why : Refusal)
     (result : Submitted) (old new : Parts D) → CanAsk who old
     → refusal_of (plain_of whole old.stock.tree) (calls.Read path offset count) ≡ Some why
@@ -148,6 +149,7 @@ places_are stock path offset count read tape g st p = ap distinct (stored_list r
 
 -- ---- reads that are answered
 
+-- a read whose blocks are all held or kept is submitted with its answer as reply
 pub read_told : {D : Type 0} (drive : Ghosts D) (who nth : ℕ) (path : List (List ℕ)) (offset count : ℕ) (at : Moment) (told : Answer)
     (read : Gathering) (wanted found : List Place) (result : Submitted) (old new : Parts D) (cached : List Kept) → CanAsk who old
     → refusal_of (plain_of whole old.stock.tree) (calls.Read path offset count) ≡ None
@@ -196,6 +198,7 @@ placed_on who nth at old mid new cached same p = record {
   sessions = p.sessions ∙ ap (λ (l : Listed). l.sessions) same;
 }
 
+-- a read that wants blocks is submitted and waits for them
 pub read_waits : {D : Type 0} (drive : Ghosts D) (who nth : ℕ) (path : List (List ℕ)) (offset count : ℕ) (at : Moment) (read : Gathering)
     (wanted found : List Place) (result : Submitted) (old mid new : Parts D) (cached : List Kept)
     → refusal_of (plain_of whole old.stock.tree) (calls.Read path offset count) ≡ None
@@ -276,6 +279,7 @@ no_op_puts ops cached tree place marks stands none =
     (λ put. let has = marks place.part place.pos stands put in
     let clash : ◌≡◌ {A = Option (List ℕ)} None (Some has.0) = sym (wanted_unheld ops cached place none) ∙ has.1 in cc)
 
+-- a read may want its blocks
 pub may_want : {D : Type 0} (who : ℕ) (path : List (List ℕ)) (offset count : ℕ) (read : Gathering) (wanted found : List Place) (p : Parts D)
     → CanAsk who p → Stands p → CanWantBlocks p → IsFetched p.stock p.cached (length p.listed.history) path offset count read wanted found
     → is_trail_from (state p.trail) (wants_at (length p.listed.history) wanted) ≡ true
@@ -307,9 +311,11 @@ pub may_still : (old mid : Journaled) (events : List Event) → mid.events ≡ o
 may_still old mid events same may =
     ap (λ (es : List Event). is_trail_from (after_all es) events) same ∙ may
 
+-- where the journal is the same, a call can be placed as before
 pub can_place_on : (who : ℕ) (old new : Listed) → new ≡ old → CanPlace who old → CanPlace who new
 can_place_on who old new same can = subst (λ (l : Listed). CanPlace who l) (sym same) can
 
+-- requests, events and a read that waits are all that asking for blocks does
 pub asks_blocks : {D : Type 0} (ticket : ℕ) (wanted : List Place) (read : Gathering) (old mid new : Parts D) → Reserves old mid
     → mid.stock ≡ old.stock → mid.listed ≡ old.listed
     → new ≡ record mid { trail = new.trail; queue = new.queue; reads = new.reads }
@@ -338,6 +344,7 @@ asks_blocks ticket wanted read old mid new r stock listed others events trail as
 
 -- ---- what was fetched is a read
 
+-- a read has the blocks that are held or kept, and wants the others
 pub fetched : (stock : Stocked) (cached : List Kept) (ticket : ℕ) (path : List (List ℕ)) (offset count : ℕ) (pieces : List Piece) (first read : Gathering)
     (places empty wanted bare found : List Place)
     → ((tape : Tape) (g : Given) (on : Bool) (st : Standing) → IsStock tape g on st stock

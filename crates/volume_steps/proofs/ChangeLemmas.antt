@@ -50,6 +50,7 @@ changes_wait_not (changes.Truncate path length) = refl
 changes_wait_not (changes.Rename from to) = refl
 changes_wait_not (changes.Remove path) = refl
 
+-- nor does one only look at the tree
 pub changes_look_not : (change : Change) → only_looks (call_of_change change) ≡ false
 changes_look_not (changes.Mkdir path) = refl
 changes_look_not (changes.Create path) = refl
@@ -78,6 +79,7 @@ abbrev pub HasRoomFor : Stocked → Call → ℕ → Type 0
 HasRoomFor stock call spare = (tape : Tape) (g : Given) (on : Bool) (st : Standing) (at : Moment) → IsStock tape g on st stock
     → 2 * length (ops_of (rules g) on st.space (ask_of g st call at)) ≤ spare
 
+-- for a write there is room where the events of its ops fit
 pub write_room : {X E : Type 0} (r : Result X E) (stock : Stocked) (call : Call) (path : List (List ℕ)) (offset : ℕ) (bytes read : List ℕ)
     (most spare : ℕ) → call ≡ Write path offset bytes → read ≡ bytes
     → ((tape : Tape) (g : Given) (on : Bool) (st : Standing) → IsStock tape g on st stock
@@ -175,6 +177,7 @@ uses_none : (stock : Stocked) (cached next : List Kept) (call : Call) → may_wa
 uses_none stock cached next (Read path offset count) is same = cc
 uses_none stock cached next _ is same = same
 
+-- a call that the tree refuses is submitted with its refusal as reply
 pub change_refused : {D : Type 0} (drive : Ghosts D) (who nth : ℕ) (call : Call) (at : Moment) (result : Submitted) (refusal : Refusal)
     (old mid new : Parts D) → CanAsk who old → may_wait call ≡ false
     → ((early : Tape) (g : Given) (on : Bool) (st : Standing) → IsStock early g on st old.stock
@@ -194,6 +197,7 @@ change_refused drive who nth call at result refusal old mid new can no_wait refu
 abbrev pub VoidAlways : Call → Moment → Stocked → AdmitErr → Type 0
 VoidAlways call at stock error = IsVoidFor stock call at (told_void error)
 
+-- a call that isn't admitted is submitted as void
 pub change_void : {D : Type 0} (drive : Ghosts D) (who nth : ℕ) (call : Call) (at : Moment) (result : Submitted) (error : AdmitErr)
     (old mid new : Parts D) → CanAsk who old → VoidAlways call at old.stock error → Reserves old mid
     → Finishes who nth at fates.Void (told_void error) result mid new → IsSubmitted drive who nth at old new call result

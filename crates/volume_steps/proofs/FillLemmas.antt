@@ -98,6 +98,7 @@ gathers_alike tape one other (Stored at byte count ∷ pieces) alike =
     (gathers_alike tape one other pieces
     (λ place has. alike place (or_second (same_place place at) (has_place place (flat_map place_in pieces)) has)))
 
+-- a read has the blocks at its own places, whatever is read elsewhere
 pub gathering_alike : (tape : Tape) (one other : Places) (g : Gathering)
     → ((place : Place) → has_place place (places_in g.pieces) ≡ true → one place ≡ other place)
     → IsGathering tape one g → IsGathering tape other g
@@ -112,6 +113,7 @@ gathering_alike tape one other g alike is = record { has = by g.whole is.has; lo
 
 -- ---- block after block
 
+-- with no place looked at yet nothing is taken
 pub taken_begins : (ops : List Op) (cached : List Kept) (g : Gathering) (wanted found : List Place) → AreTakenFrom ops cached [] g g wanted wanted found found
 taken_begins ops cached g wanted found = record {
   ticket = refl;
@@ -232,12 +234,14 @@ next_place places i d lt =
     let on : i + 1 ≡ suc i = omega arith in
     ap (λ n. take n places) on ∙ take-suc places i d lt
 
+-- all places are the first of them, so many as there are
 pub all_places : (places : List Place) (i : ℕ) → length places ≤ i → take i places ≡ places
 all_places [] zero le = refl
 all_places [] (suc i) le = refl
 all_places (p ∷ ps) zero le = absurd (omega (arith, le))
 all_places (p ∷ ps) (suc i) le = ap (λ l. p ∷ l) (all_places ps i (omega (arith, le)))
 
+-- one place more is looked at: its block is taken, or wanted
 pub taken_next : (ops : List Op) (cached : List Kept) (places : List Place) (i : ℕ) (d : Place) (start old new : Gathering) (first before after known found later : List Place)
     → i < length places → AreTakenFrom ops cached (take i places) start old first before known found
     → IsTakenFrom (held_in (get_or places i d) ops) (bytes_at cached (get_or places i d)) (get_or places i d) old new before after found later
@@ -246,6 +250,7 @@ taken_next ops cached places i d start old new first before after known found la
     subst (λ (ps : List Place). AreTakenFrom ops cached ps start new first after known later) (sym (next_place places i d lt))
     (taken_on ops cached (take i places) (get_or places i d) start old new first before after known found later t is)
 
+-- once all places were looked at, all are taken or wanted
 pub taken_ends : (ops : List Op) (cached : List Kept) (places : List Place) (i : ℕ) (start new : Gathering) (first after known later : List Place)
     → length places ≤ i → AreTakenFrom ops cached (take i places) start new first after known later → AreTakenFrom ops cached places start new first after known later
 taken_ends ops cached places i start new first after known later le t =

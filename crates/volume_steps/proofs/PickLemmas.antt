@@ -80,6 +80,7 @@ module _ {D : Type 0} (drive : Ghosts D) (p : Parts D) (can : CanStep drive p) (
       let is : Some picked.at ≡ Some (place_of op) =
       sym picked.waits ∙ ap (option_map (λ (o : waiting.Op). o.place)) (waits_first op later first picked) in cc
 
+  -- an op that was picked may be done
   pub op_allowed : (op : Op) (later : List Op) (fault : Option Twin) → p.stock.layout.ops ≡ op ∷ later
       → IsOpPicked (state p.trail).head (op_place (state p.trail)) p.queue.waiting
       → allows (state p.trail) (Worked (place_of op) fault) ≡ true
@@ -100,6 +101,7 @@ module _ {D : Type 0} (drive : Ghosts D) (p : Parts D) (can : CanStep drive p) (
 
   -- ---- a request
 
+  -- a request that was picked is one of those that wait
   pub one_request : (node owner : ℕ) (place : Place) → IsPicked (state p.trail).head (op_place (state p.trail)) p.queue.waiting node owner place
       → IsOneRequest p.queue.waiting owner place
   one_request node owner place picked = record {
@@ -111,11 +113,13 @@ module _ {D : Type 0} (drive : Ghosts D) (p : Parts D) (can : CanStep drive p) (
     place_is = refl;
   }
 
+  -- a request that was picked may be served
   pub request_allowed : (node owner : ℕ) (place : Place) (fault : Option Twin)
       → IsPicked (state p.trail).head (op_place (state p.trail)) p.queue.waiting node owner place
       → allows (state p.trail) (Served owner place fault) ≡ true
   request_allowed node owner place fault picked = allowed (state p.trail) (Served owner place fault)
       (picks_may_come.served (state p.trail) p.queue.waiting node owner place fault ready.queue picked) ready.none_due
 
+  -- a request that was picked is of a read that waits
   pub has_read : (owner : ℕ) (place : Place) → IsOneRequest p.queue.waiting owner place → HasTicket p.reads owner
   has_read owner place one = stands p.reads owner (can.request owner place one).2

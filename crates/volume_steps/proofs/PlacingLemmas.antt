@@ -46,6 +46,7 @@ phase_here who marks kind =
 
 -- ---- a call is placed, its reply is kept, and is handed out
 
+-- a call that was just placed has no reply yet
 pub none_yet : (old mid : Listed) (here : ℕ) → length old.replies ≡ length old.history → here ≡ length old.history
     → mid.replies ≡ old.replies ++ None ∷ [] → slice_get mid.replies here ≡ Some None
 none_yet old mid here each here_is is =
@@ -58,6 +59,7 @@ told_all old mid now here reply each here_is is set =
     set ∙ ap (λ (rs : List (Option Reply)). slice_set rs here (Some reply)) is
     ∙ set_seam old.replies None (Some reply) here (each ∙ sym here_is)
 
+-- the reply that was given to a call stands at its place
 pub there_now : (old mid now : Listed) (here : ℕ) (reply : Reply) → length old.replies ≡ length old.history → here ≡ length old.history
     → mid.replies ≡ old.replies ++ None ∷ [] → now.replies ≡ slice_set mid.replies here (Some reply)
     → slice_get now.replies here ≡ Some (Some reply)
@@ -65,6 +67,7 @@ there_now old mid now here reply each here_is is set =
     ap (λ (rs : List (Option Reply)). slice_get rs here) (told_all old mid now here reply each here_is is set)
     ∙ seam old.replies (Some reply) here (each ∙ sym here_is)
 
+-- a session whose call was just placed waits for it
 pub waits_here : (who here : ℕ) (old mid now : Listed) → here ≡ length old.history → phase who old.marks ≡ idle
     → mid.marks ≡ old.marks ++ mark who (kinds.Places (length old.history)) ∷ [] → now.marks ≡ mid.marks
     → phase who now.marks ≡ waits here
@@ -84,6 +87,7 @@ both_marks who here old mid now new reply here_is placed same is handed =
     ∙ ap (λ (ms : List Mark). ms ++ mark who (kinds.Hands (length old.history) reply) ∷ []) (same ∙ placed)
     ∙ append_assoc old.marks (mark who (kinds.Places (length old.history)) ∷ []) (mark who (kinds.Hands (length old.history) reply) ∷ [])
 
+-- a call that was placed and got its reply is placed with its reply
 pub places : {D : Type 0} (who nth here : ℕ) (at : Moment) (fate : Fate) (reply : Reply) (mid now : Listed) (old new : Parts D)
     → length old.listed.replies ≡ length old.listed.history → here ≡ length old.listed.history
     → mid.history ≡ old.listed.history ++ record { who = who; nth = nth; at = at; fate = fate } ∷ []

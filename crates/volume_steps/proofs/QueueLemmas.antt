@@ -29,9 +29,11 @@ none_of done (s ∷ more) none st done_is is = rw is (rw done_is (by (nat_le s.d
     by false e = e
     by true e = let there : due_of done (s ∷ more) ≡ Some s.ticket = rw e refl in let no_way : Some s.ticket ≡ None = sym there ∙ none in cc
 
+-- where no ticket is due no sync is
 pub none_is_due : (st : State) → due_ticket st ≡ None → is_due st ≡ false
 none_is_due st none = none_of st.done st.syncs none st refl refl
 
+-- where no sync is due an op may be queued
 pub may_queue : (st : State) (place : Place) → due_ticket st ≡ None → allows st (the_events.Queues place) ≡ true
 may_queue st place none = ap (λ b. not b || false) (none_is_due st none)
 
@@ -140,6 +142,7 @@ queuing_ends others nth ops old new q past trail = record {
   none_due = q.none_due;
 }
 
+-- no more room is taken than the ops need
 pub queuing_spare : (others nth : ℕ) (ops : List Op) (old new : Journaled) → Queuing (places_behind others ops) (nth - others) old new
     → old.spare ≤ new.spare + 2 * length (drop others ops)
 queuing_spare others nth ops old new q = omega (arith, q.few, q.spare, length-map (drop others ops) place_of)

@@ -73,6 +73,7 @@ pub record TakesRequest {D : Type 0} (ticket : ℕ) (place : Place) (got : Got) 
   pub queue : new.queue.waiting ≡ request.front ++ request.behind
   pub cached : IsKeptAfter got place block old.cached new.cached
 
+-- a read that got a block and has requests left waits on
 pub waits_on : {D : Type 0} (ticket : ℕ) (place : Place) (got : Got) (block : List ℕ) (old new : Parts D) → TakesRequest ticket place got block old new
     → IsFilledOne ticket place block old.reads new.reads → new.listed.replies ≡ old.listed.replies
     → new.answered ≡ old.answered
@@ -91,6 +92,7 @@ waits_on ticket place got block old new t filled told answered more = record {
   cached = t.cached;
 }
 
+-- a read that got its last block is answered
 pub is_answered : {D : Type 0} (ticket : ℕ) (place : Place) (got : Got) (block : List ℕ) (gives : Answer) (mid : List Gathering) (old new : Parts D)
     → TakesRequest ticket place got block old new → IsFilledOne ticket place block old.reads mid → IsFinished ticket mid new.reads gives
     → new.listed.replies ≡ replied ticket (the_replies.Answer gives) old.listed.replies
@@ -119,6 +121,7 @@ is_answered ticket place got block gives mid old new t filled finished told answ
       cached = t.cached;
     }
 
+-- a request that failed is told to its read, which waits no more
 pub missed : {D : Type 0} (ticket : ℕ) (place : Place) (counts : Twin) (old new : Parts D) → new.drive ≡ old.drive → ReadsOnly old new
     → new.trail.events ≡ old.trail.events ++ Served ticket place (Some counts) ∷ []
     → IsOneRequest old.queue.waiting ticket place

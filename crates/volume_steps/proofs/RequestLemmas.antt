@@ -35,6 +35,7 @@ allowed_at ticket (p ∷ ps) (suc i) d st lt may =
     allowed_at ticket ps i d (after st (the_events.Wants ticket p)) (omega (arith, lt))
     (both_second (allows st (the_events.Wants ticket p)) (is_trail_from (after st (the_events.Wants ticket p)) (wants_at ticket ps)) may)
 
+-- what the events leave once a read has asked for blocks
 pub state_after : (ticket : ℕ) (places : List Place) (old new : Journaled) → new.events ≡ old.events ++ wants_at ticket places
     → state new ≡ fold after (state old) (wants_at ticket places)
 state_after ticket places old new events =
@@ -59,6 +60,7 @@ pub record Asking (ticket : ℕ) (places : List Place) (i : ℕ) (old new : Jour
   pub spare : old.spare ≤ new.spare + 2 * i
   pub room : before.spare ≤ later.spare + i
 
+-- with no place yet nothing is asked for
 pub asking_begins : (ticket : ℕ) (places : List Place) (old : Journaled) (before : Queued)
     → Asking ticket places 0 old old before before
 asking_begins ticket places old before = record {
@@ -68,6 +70,7 @@ asking_begins ticket places old before = record {
   room = omega arith;
 }
 
+-- the next block of a read may be asked for
 pub asking_allowed : (ticket : ℕ) (places : List Place) (i : ℕ) (d : Place) (old new : Journaled) (before later : Queued)
     → i < length places → is_trail_from (state old) (wants_at ticket places) ≡ true
     → Asking ticket places i old new before later → allows (state new) (the_events.Wants ticket (get_or places i d)) ≡ true
@@ -75,14 +78,17 @@ asking_allowed ticket places i d old new before later lt may a =
     ap (λ (st : State). allows st (the_events.Wants ticket (get_or places i d))) (state_after ticket (take i places) old new a.events.events)
     ∙ allowed_at ticket places i d (state old) lt may
 
+-- there is room for the event of the next request
 pub asking_room : (ticket : ℕ) (places : List Place) (i : ℕ) (old new : Journaled) (before later : Queued) → i < length places
     → 2 * length places ≤ old.spare → Asking ticket places i old new before later → 2 ≤ new.spare
 asking_room ticket places i old new before later lt room a = omega (arith, lt, room, a.spare)
 
+-- there is room for the next request in the queue
 pub asking_requests : (ticket : ℕ) (places : List Place) (i : ℕ) (old new : Journaled) (before later : Queued) → i < length places
     → length places ≤ before.spare → Asking ticket places i old new before later → 1 ≤ later.spare
 asking_requests ticket places i old new before later lt room a = omega (arith, lt, room, a.room)
 
+-- one block more is asked for behind the others
 pub asking_on : (ticket : ℕ) (places : List Place) (i : ℕ) (d : Place) (node : ℕ) (old mid new : Journaled)
     (before between later : Queued) → i < length places → Asking ticket places i old mid before between
     → new.events ≡ mid.events ++ the_events.Wants ticket (get_or places i d) ∷ [] → new.acks ≡ mid.acks → new.kept ≡ mid.kept
@@ -124,11 +130,13 @@ asking_on ticket places i d node old mid new before between later lt a events ac
       room = omega (arith, room, a.room);
     }
 
+-- once all places are passed, the events have a request for each
 pub asking_events : (ticket : ℕ) (places : List Place) (i : ℕ) (old new : Journaled) (before later : Queued) → length places ≤ i
     → Asking ticket places i old new before later → HasEvents ticket places old new
 asking_events ticket places i old new before later le a =
     subst (λ (ps : List Place). HasEvents ticket ps old new) (all_places places i le) a.events
 
+-- once all places are passed, the queue has a request for each
 pub asking_ends : (ticket : ℕ) (places : List Place) (i : ℕ) (old new : Journaled) (before later : Queued) → length places ≤ i
     → Asking ticket places i old new before later → HasRequests ticket places before later
 asking_ends ticket places i old new before later le a =

@@ -64,6 +64,7 @@ module _ {D : Type 0} (drive : Ghosts D) where
     cached = f.cached;
   }
 
+  -- an op that the head did, with what was made of it, is a step
   pub does_op : (op : Op) (end : StepDone) (tickets : List ℕ) (old new : Parts D) (d : D) (block : List ℕ) → AreRight old
       → IsOpStep drive op end old.drive d → IsWell end → FinishesOp (drive.commands d) op tickets (with_head d block old) new
       → SomeStep drive old new
@@ -99,6 +100,7 @@ module _ {D : Type 0} (drive : Ghosts D) where
     cached = f.cached;
   }
 
+  -- an op that failed, with what was made of it, is a step
   pub fails_op : (op : Op) (later : List Op) (counts : Twin) (old new : Parts D) (d : D) (block : List ℕ) → old.stock.layout.ops ≡ op ∷ later
       → IsOpStep drive op (ends.Failed counts) old.drive d → TellsFault op counts (with_head d block old) new
       → SomeStep drive old new
@@ -149,6 +151,7 @@ module _ {D : Type 0} (drive : Ghosts D) where
   answer_kept true ticket old new d block k = k
   answer_kept false ticket old new d block k = k
 
+  -- a block that was read, with what was made of it, is a step
   pub reads_block : (ticket : ℕ) (place : Place) (got : Got) (block : List ℕ) (old new : Parts D) (d : D)
       → AreRight old → slice_get old.listed.replies ticket ≡ Some None
       → IsReadStep drive place (ends.Read got) old.drive d
@@ -177,6 +180,7 @@ module _ {D : Type 0} (drive : Ghosts D) where
     cached = m.cached;
   }
 
+  -- a read that failed, with what was made of it, is a step
   pub fails_read : (ticket : ℕ) (place : Place) (counts : Twin) (old new : Parts D) (d : D) (block : List ℕ)
       → IsReadStep drive place (ends.Failed counts) old.drive d → MissesBlock ticket place counts (with_head d block old) new
       → SomeStep drive old new

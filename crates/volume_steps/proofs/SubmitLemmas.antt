@@ -161,6 +161,7 @@ uses_nothing : (stock : Stocked) (cached : List Kept) (call : Call) → only_loo
 uses_nothing stock cached (Read path offset count) is = cc
 uses_nothing stock cached _ is = refl
 
+-- a call that only looks is submitted with its answer as reply
 pub look_told : {D : Type 0} (drive : Ghosts D) (who nth : ℕ) (call : Call) (at : Moment) (told : Answer) (result : Submitted)
     (old new : Parts D) → CanAsk who old → only_looks call ≡ true
     → ((tape : Tape) → told ≡ answer (plain_of tape old.stock.tree) call)
@@ -175,12 +176,14 @@ look_told drive who nth call at told result old new can looks is f =
 
 -- ---- want of memory
 
+-- a call without memory is submitted as void, after room was sought
 pub no_memory : {D : Type 0} (drive : Ghosts D) (who nth : ℕ) (call : Call) (at : Moment) (result : Submitted)
     (old mid new : Parts D) → CanAsk who old → Reserves old mid
     → Finishes who nth at fates.Void the_replies.NoMemory result mid new → IsSubmitted drive who nth at old new call result
 no_memory drive who nth call at result old mid new can r f =
     placed_void drive who nth call at the_replies.NoMemory result old mid new can.trail tt r f
 
+-- a call without memory is submitted as void
 pub no_memory_here : {D : Type 0} (drive : Ghosts D) (who nth : ℕ) (call : Call) (at : Moment) (result : Submitted)
     (old new : Parts D) → CanAsk who old
     → Finishes who nth at fates.Void the_replies.NoMemory result old new → IsSubmitted drive who nth at old new call result
@@ -188,6 +191,7 @@ no_memory_here drive who nth call at result old new can f = no_memory drive who 
 
 -- ---- memory
 
+-- where only room was got, nothing else has changed
 pub reserved : {D : Type 0} (old new : Parts D) → new.drive ≡ old.drive → new.stock ≡ old.stock → new.on ≡ old.on
     → new.trail.events ≡ old.trail.events → new.trail.acks ≡ old.trail.acks → new.trail.kept ≡ old.trail.kept
     → new.queue.waiting ≡ old.queue.waiting → new.queue.arrived ≡ old.queue.arrived → new.reads ≡ old.reads
@@ -214,6 +218,7 @@ reserved old new drive stock on events acks kept waiting arrived reads history r
 
 -- ---- writes that are put off
 
+-- a write is put off where more than 64 ops stand
 pub puts_off : {D : Type 0} (who : ℕ) (old mid new : Parts D) → 64 < length old.stock.layout.ops → Reserves old mid
     → mid.stock ≡ old.stock → new ≡ record mid { trail = new.trail; listed = new.listed }
     → new.trail.events ≡ mid.trail.events ++ the_events.Drains who ∷ [] → new.trail.acks ≡ mid.trail.acks
@@ -246,12 +251,15 @@ puts_off who old mid new many r stock others events acks kept trail history repl
 
 -- ---- calls that are placed
 
+-- a reply that is ready is no drain
 pub ready_no_drain : (result : Submitted) (reply : Reply) → result ≡ submitted.Ready reply → result ≢ submitted.Drain
 ready_no_drain result reply is drain = let clash : submitted.Ready reply ≡ submitted.Drain = sym is ∙ drain in cc
 
+-- a ticket is no drain
 pub waits_no_drain : (result : Submitted) (ticket : ℕ) → result ≡ submitted.Wait ticket → result ≢ submitted.Drain
 waits_no_drain result ticket is drain = let clash : submitted.Wait ticket ≡ submitted.Drain = sym is ∙ drain in cc
 
+-- the answer of a sync is no drain
 pub synced_no_drain : (result : Submitted) (here : ℕ) (ops : List Op) → result ≡ made.synced_answer here ops
     → result ≢ submitted.Drain
 synced_no_drain result here [] is drain =

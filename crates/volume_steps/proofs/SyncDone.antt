@@ -64,6 +64,7 @@ abbrev pub HasRoomForSync : Stocked → Option (List ℕ) → ℕ → Type 0
 HasRoomForSync stock due spare = (tape : Tape) (g : Given) (on : Bool) (st : Standing) (at : Moment) → IsStock tape g on st stock
     → IsDocument g st at due → 2 * length (ops_of (rules g) on st.space (ask_of g st calls.Sync at)) + 2 ≤ spare
 
+-- for a sync with an index there is room where the events of its ops fit
 pub sync_room_some : {X E : Type 0} (r : Result X E) (stock : Stocked) (due : Option (List ℕ)) (doc : List ℕ) (most more spare : ℕ)
     → due ≡ Some doc
     → ((tape : Tape) (g : Given) (on : Bool) (st : Standing) → IsStock tape g on st stock
@@ -80,6 +81,7 @@ sync_room_some r stock due doc most more spare is brings one room =
     (brings tape g on st stands).indexes (sync_text g st at) (ap (λ (t : List ℕ). length t) (sym both.1)) in
     subst (λ (a : Ask). 2 * length (ops_of (rules g) on st.space a) + 2 ≤ spare) (sym ask) (omega (arith, few, one, enough))) room
 
+-- for a sync without an index there is room where its own event fits
 pub sync_room_none : {X E : Type 0} (r : Result X E) (stock : Stocked) (due : Option (List ℕ)) (spare : ℕ) → due ≡ None
     → OnOk r (2 * 1 ≤ spare) → OnOk r (HasRoomForSync stock due spare)
 sync_room_none r stock due spare is room =

@@ -19,12 +19,14 @@ use Rattle.state_laws.specs.Parts.{Parts}
 use Rattle.state_laws.specs.Stepping.{KeepsListed, acks_at, all_synced, replied, synced_events}
 use Rattle.volume_steps.specs.Moves.{AnswersSome, SyncsWait}
 
+-- the test calls a number equal to itself
 pub same_number : (n : ℕ) → (n == n) ≡ true
 same_number n = grind (arith, nat_tests)
 
 is_number : (a b : ℕ) → (a == b) ≡ true → a ≡ b
 is_number a b e = grind (arith, nat_tests, e)
 
+-- the state after one event more is what that event makes of the state before
 pub after_more : (events : List Event) (e : Event) → after_all (events ++ e ∷ []) ≡ after (after_all events) e
 after_more events e = fold-append after start events (e ∷ [])
 
@@ -106,6 +108,7 @@ first_due done ticket s more e = by (nat_le s.due done) refl
     by true h = let same : Some s.ticket ≡ Some ticket = rw h at e in cc
     by false h = let wrong : None ≡ Some ticket = rw h at e in cc
 
+-- once a sync that is due is answered, fewer wait
 pub fewer : (done ticket : ℕ) (syncs : List Waiter) → due_of done syncs ≡ Some ticket
     → length (filter (others_than ticket) syncs) < length syncs
 fewer done ticket [] e = absurd (let wrong : None ≡ Some ticket = e in cc)
@@ -184,6 +187,7 @@ pub record Answering {D : Type 0} (commands : ℕ) (old now : Parts D) : Type 0 
   pub answered : AnswersSome commands tickets old now
   pub waits : SyncsWait (state now.trail) now.listed.replies
 
+-- one sync more is answered behind the others
 pub answering_one_more : {D : Type 0} (commands ticket : ℕ) (old mid new : Parts D) → Answering commands old mid
     → due_ticket (state mid.trail) ≡ Some ticket → AnswersOne commands ticket mid new → Answering commands old new
 answering_one_more commands ticket old mid new a due one = record {

@@ -56,6 +56,7 @@ tickets_within drive fixed planned p tied k d lt =
     subst (λ n. n < length p.listed.history) asked.ticket
     (get_within p.listed.history asked.reading.ticket reading.placed placed)
 
+-- reads of a volume that is tied may want blocks
 pub can_want : {D : Type 0} (drive : Ghosts D) → TiedReadsMayWant drive
 can_want drive fixed planned p tied standing = record {
   first = none_at (length p.listed.history) (state p.trail).requests (tickets_within drive fixed planned p tied);

@@ -23,6 +23,7 @@ use Rattle.volume_steps.specs.Asking.{AnswersSync, Awaits, CanAsk, WaitsSynced}
 use Rattle.volume_steps.proofs.QueueLemmas.{after_one, none_is_due}
 use Rattle.volume_steps.proofs.SyncedLemmas.{sync_done, sync_due, sync_waits}
 
+-- where no sync is due one may begin
 pub may_sync : (st : waiting.State) (here : ℕ) → due_ticket st ≡ None → allows st (the_events.Syncs here) ≡ true
 may_sync st here none = rw (none_is_due st none) refl
 
@@ -54,6 +55,7 @@ due_now here old mid none due events =
     ap (λ (es : List Event). due_ticket (after_all es)) events ∙ ap due_ticket (after_one old.events (the_events.Syncs here))
     ∙ sync_due old.events here none due
 
+-- a sync for which no op stands is answered at once
 pub answered_now : {D : Type 0} (drive : Ghosts D) (who nth : ℕ) (at : Moment) (here : ℕ) (result : Submitted) (trail : Journaled)
     (old new : Parts D) → CanAsk who old → length (waiting.ops (state old.trail)) ≡ length old.stock.layout.ops
     → length old.stock.layout.ops ≡ 0 → here ≡ length old.listed.history
@@ -94,6 +96,7 @@ answered_now drive who nth at here result trail old new can same none here_is ev
       others = a.others;
     }
 
+-- a sync for which ops stand waits
 pub waits_on : {D : Type 0} (drive : Ghosts D) (who nth : ℕ) (at : Moment) (here : ℕ) (result : Submitted) (trail : Journaled)
     (old new : Parts D) → CanAsk who old → length (waiting.ops (state old.trail)) ≡ length old.stock.layout.ops
     → 1 ≤ length old.stock.layout.ops → here ≡ length old.listed.history

@@ -22,10 +22,12 @@ met ticket k [] d first lt is same = absurd (omega (arith, lt))
 met ticket zero (x ∷ xs) d first lt is same = (is, same ∙ first_here ticket x xs is)
 met ticket (suc k) (x ∷ xs) d first lt is same = met ticket k xs d first (omega (arith, lt)) is same
 
+-- where the first entry for a ticket stands, its answer is
 pub found_at : (ticket k : ℕ) (answered : List (ℕ × Answer)) (d : ℕ × Answer) → k < length answered → (get_or answered k d).0 ≡ ticket
     → answer_for ticket answered ≡ answer_for ticket (drop k answered) → IsAnswerAt ticket k answered
 found_at ticket k answered d lt is same = met ticket k answered d (answer_for ticket answered) lt is same
 
+-- where the search passes all answers, none is kept for the ticket
 pub none_left : (ticket : ℕ) (answered : List (ℕ × Answer)) → answer_for ticket answered ≡ answer_for ticket (drop (length answered) answered)
     → answer_for ticket answered ≡ None
 none_left ticket answered same = same ∙ ap (answer_for ticket) (drop-length answered)
@@ -36,6 +38,7 @@ at_place k [] d P lt is = absurd (omega (arith, lt))
 at_place zero (x ∷ xs) d P lt is = is
 at_place (suc k) (x ∷ xs) d P lt is = at_place k xs d P (omega (arith, lt)) is
 
+-- the answer that is taken is the first for its ticket
 pub taken_first : (ticket k : ℕ) (answered : List (ℕ × Answer)) (one : ℕ × Answer) → k < length answered → IsAnswerAt ticket k answered
     → one ≡ get_or answered k one → Some one.1 ≡ answer_for ticket answered
 taken_first ticket k answered one lt is taken =
@@ -52,6 +55,7 @@ without ticket zero (x ∷ xs) d lt is = passed_over ticket x xs is
 without ticket (suc k) (x ∷ xs) d lt is =
     ap (λ rest. cond (not (x.0 == ticket)) (x ∷ rest) rest) (without ticket k xs d (omega (arith, lt)) is)
 
+-- without the first answer for a ticket, those for other tickets stay
 pub others_stay : (ticket k : ℕ) (answered left : List (ℕ × Answer)) (one : ℕ × Answer) → k < length answered → IsAnswerAt ticket k answered
     → left ≡ take k answered ++ drop (k + 1) answered → for_others ticket left ≡ for_others ticket answered
 others_stay ticket k answered left one lt is left_is =

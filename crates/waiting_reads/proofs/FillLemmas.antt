@@ -119,6 +119,7 @@ module _ (tape : Tape) (read : Places) (place : Place) (pieces : List Piece) (by
   pub starts : (run : List Stand) → IsGathered tape read pieces bytes → run ≡ at_pos place.pos (stands_from 0 0 pieces) → Ahead run
   starts run gathered is = record { i = 0; at = 0; half = begins tape read place pieces bytes gathered; left_is = is }
 
+  -- once all pieces at a block's place are filled, the read has that block
   pub is_over : (run : List Stand) (k : ℕ) → length run ≤ k → Ahead (drop k run) → IsGathered tape (with_place read place) pieces bytes
   is_over run k end a = passes_all a.i a.at (drop a.i pieces) refl a.half (sym (drop_all k run end) ∙ a.left_is)
 
@@ -135,6 +136,7 @@ module _ (tape : Tape) (read : Places) (place : Place) (pieces : List Piece) (by
     pub goes_half : whole ≡ true → Halfway tape read place pieces (s.number + 1) (s.at + bytes_in this.piece) next
     goes_half good = put_steps tape read place pieces s.number s.at (bytes_in this.piece) bytes next this.piece this.lt this.is this.half refl whole good (put this.piece there)
 
+    -- where a block lacks bytes of a piece, the read's bytes are lost
     pub is_lost : whole ≡ false → bytes_of (flat_map (read_piece tape) pieces) ≡ None
     is_lost lost = put_loses tape read place pieces s.number s.at (bytes_in this.piece) bytes next this.piece this.lt this.is this.half refl whole lost (put this.piece there)
 
@@ -156,6 +158,7 @@ goes_on tape read place pieces bytes run k s lt is a next whole put good = recor
 
 -- ---- one piece, in a list of its own
 
+-- the bytes of one piece, filled from a block, are put at their place
 pub one_filled : (tape : Tape) (read : Places) (place : Place) (piece : Piece) (at : ℕ) (bytes part : List ℕ) (whole : Bool) (seen : List Piece) (lent next : List ℕ)
     → seen ≡ piece ∷ [] → lent ≡ take (bytes_in piece) (drop at bytes) → IsGatheredPiece tape read piece (take (bytes_in piece) (drop at bytes))
     → (IsGathered tape read seen lent → IsFilled tape read place seen part whole)

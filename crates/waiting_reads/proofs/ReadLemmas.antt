@@ -11,9 +11,11 @@ use Rattle.extent_map.proofs.DistinctLemmas.{replies_gather}
 use Rattle.waiting_reads.specs.Gathering.{Gathering, HasSoFar, IsAnswered, IsGathering, got_or_damaged}
 use Rattle.waiting_reads.specs.Waiting.{IsFilledBy}
 
+-- a read of these pieces, with its bytes so far
 abbrev pub gathering : ℕ → List Piece → List ℕ → Bool → Gathering
 gathering ticket pieces bytes whole = record { ticket = ticket; pieces = pieces; bytes = bytes; whole = whole }
 
+-- a read with zeros for all its bytes has met none of its blocks yet
 pub begun : (ticket : ℕ) (pieces : List Piece) (bytes : List ℕ) → bytes ≡ replicate (size_of pieces) 0 → (tape : Tape) → IsGathering tape (λ place. false) (gathering ticket pieces bytes true)
 begun ticket pieces bytes is tape = subst (λ bs. IsGathering tape (λ place. false) (gathering ticket pieces bs true)) (sym is)
     (record { has = replies_gather.begins tape pieces; long = length-replicate (size_of pieces) 0 })

@@ -16,9 +16,11 @@ use Rattle.waiting_reads.specs.declared.stands.Stand.{Stand}
 
 -- ---- piece after piece
 
+-- the number after a number is one more
 pub one_more : (i : ℕ) → suc i ≡ i + 1
 one_more i = omega arith
 
+-- with one piece more the stands on tape so far go on by that piece's
 pub stands_more : (pieces : List Piece) (i at : ℕ) (p : Piece) (done : List Stand) → i < length pieces → p ≡ get_or pieces i p
     → stands_from 0 0 pieces ≡ done ++ stands_from i at (drop i pieces)
     → stands_from 0 0 pieces ≡ (done ++ stand_in i at p) ++ stands_from (i + 1) (at + bytes_in p) (drop (i + 1) pieces)
@@ -26,6 +28,7 @@ stands_more pieces i at p done lt is so_far =
     so_far ∙ ap (λ l. done ++ stands_from i at l) ((dropped pieces i p lt is).0 ∙ ap (λ n. p ∷ drop n pieces) (one_more i))
     ∙ sym (append_assoc done (stand_in i at p) (stands_from (i + 1) (at + bytes_in p) (drop (i + 1) pieces)))
 
+-- after the last piece the stands so far are all of them
 pub stands_all : (pieces : List Piece) (i at : ℕ) (done : List Stand) → length pieces ≤ i → stands_from 0 0 pieces ≡ done ++ stands_from i at (drop i pieces)
     → done ≡ stands_from 0 0 pieces
 stands_all pieces i at done end so_far = sym (so_far ∙ ap (λ l. done ++ stands_from i at l) (drop_all i pieces end) ∙ append-nil done)
@@ -36,6 +39,7 @@ pub record Head (pieces : List Piece) (i : ℕ) (p : Piece) (more : List Piece) 
   pub is : p ≡ get_or pieces i p
   pub rest : drop (i + 1) pieces ≡ more
 
+-- what begins the rest of the pieces is the piece of that number
 pub head_at : (i : ℕ) (pieces : List Piece) (p : Piece) (more : List Piece) → drop i pieces ≡ p ∷ more → Head pieces i p more
 head_at zero [] p more e = cc
 head_at (suc i) [] p more e = cc
@@ -70,6 +74,7 @@ ends_within pieces s bytes count stands long is =
     let item = at_item pieces s.number (Zeros 0) stands.within in
     omega (arith, (sizes pieces s.number (get_or pieces s.number (Zeros 0)) stands.within item).1, stands.begins, long, is)
 
+-- the stands at one position are stands of the pieces
 pub run_stands : (pieces : List Piece) (stands run : List Stand) (pos : ℕ) → AreStands pieces stands → run ≡ at_pos pos stands
     → All (IsStand pieces) run
 run_stands pieces stands run pos are is =

@@ -21,6 +21,7 @@ stands ticket k reads one lt before here is = record {
   others = before;
 }
 
+-- a block goes to the first read with a ticket, and to no other
 pub filled_one : (ticket k : ℕ) (place : Place) (block : List ℕ) (reads old : List Gathering) (one next : Gathering) → reads ≡ old → k < length reads
     → has_ticket ticket (take k reads) ≡ false → IfSome (slice_get reads k) (λ g. g.ticket ≡ ticket) → one ≡ get_or reads k one
     → IsFilledBy place block one next → IsFilledOne ticket place block old (set reads k next)
@@ -38,6 +39,7 @@ filled_one ticket k place block reads old one next same lt before here is filled
     one_more : suc k ≡ k + 1
     one_more = omega arith
 
+-- without the first read with a ticket, the others wait as they did
 pub taken_out : (ticket k : ℕ) (reads old new : List Gathering) (one : Gathering) → reads ≡ old → k < length reads
     → has_ticket ticket (take k reads) ≡ false → IfSome (slice_get reads k) (λ g. g.ticket ≡ ticket) → one ≡ get_or reads k one
     → new ≡ take k reads ++ drop (k + 1) reads → IsTakenOut ticket old new one
