@@ -145,17 +145,17 @@ front_more a b c x y all front = (length x + front.0, subst (Appends a c) (sym (
 rose_later : (before mid now : ℕ) → before ≤ mid → Rose mid now → Rose before now
 rose_later before mid now later rose = omega (arith, later, rose)
 
-pub all_told : (sink : Written) (found : FoundTree)
+all_told : (sink : Written) (found : FoundTree)
     → ((tape : Tape) → Appends sink.old sink.new (listing_text found.generation found.spot (plain_of tape found.tree)))
     → (tape : Tape) → IsListingTold (listing_of tape found) sink 0
 all_told sink found all tape = inl (inl (refl, all tape))
 
-pub sink_told : (sink : Written) (found : FoundTree) → Rose sink.before sink.now
+sink_told : (sink : Written) (found : FoundTree) → Rose sink.before sink.now
     → ((tape : Tape) → AppendsFront sink.old sink.new (listing_text found.generation found.spot (plain_of tape found.tree)))
     → (tape : Tape) → IsListingTold (listing_of tape found) sink 6
 sink_told sink found rose front tape = inl (inr (refl, rose, front tape))
 
-pub part_told : (sink : Written) (mid : Option (List ℕ)) (found : FoundTree)
+part_told : (sink : Written) (mid : Option (List ℕ)) (found : FoundTree)
     → ((tape : Tape) → (count : ℕ) × Appends sink.old mid (first_lines count (plain_of tape found.tree))) → Appends mid sink.new (codes "memory\n")
     → (tape : Tape) → IsListingTold (listing_of tape found) sink 7
 part_told sink mid found lines memory tape =

@@ -20,7 +20,7 @@ none_within count held [] image lt numbered h = h
 none_within count held (e ∷ es) image lt numbered (inl h) = absurd (omega (arith, numbered.0 lt, h.0))
 none_within count held (e ∷ es) image lt numbered (inr h) = none_within count (undo e.act held) es image lt numbered.1 h
 
-pub since_at : (count t : ℕ) (held : Files) (es : List DoneCommand) (image : Files) → Numbered count es → t ≤ count
+since_at : (count t : ℕ) (held : Files) (es : List DoneCommand) (image : Files) → Numbered count es → t ≤ count
     → LeftWithin held es t image → LeftSince count held es t image
 since_at count t held es image numbered le h = ⊎_elim
     (λ (lt : count < 2 ^ 64 - 1). ⊎_elim

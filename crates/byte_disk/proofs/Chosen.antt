@@ -76,11 +76,11 @@ module _ (w : Change) (choice bytes : List ℕ) where
       (All-take (λ (b : ℕ). b < 2 ^ 8) (upto - from) (drop from choice) (All-drop (λ (b : ℕ). b < 2 ^ 8) from choice are_choice)) are
 
 -- of all ranges
-pub chosen_length : (ws : List Change) (choice bytes : List ℕ) → length (chosen ws choice bytes) ≡ length bytes
+chosen_length : (ws : List Change) (choice bytes : List ℕ) → length (chosen ws choice bytes) ≡ length bytes
 chosen_length [] choice bytes = refl
 chosen_length (w ∷ ws) choice bytes = chosen_length ws choice (chosen_in w choice bytes) ∙ in_length w choice bytes
 
-pub chosen_bytes : (ws : List Change) (choice bytes : List ℕ) → AreBytes choice → AreBytes bytes → AreBytes (chosen ws choice bytes)
+chosen_bytes : (ws : List Change) (choice bytes : List ℕ) → AreBytes choice → AreBytes bytes → AreBytes (chosen ws choice bytes)
 chosen_bytes [] choice bytes are_choice are = are
 chosen_bytes (w ∷ ws) choice bytes are_choice are = chosen_bytes ws choice (chosen_in w choice bytes) are_choice (in_bytes w choice bytes are_choice are)
 

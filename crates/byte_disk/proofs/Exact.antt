@@ -12,7 +12,7 @@ use Rattle.byte_disk.proofs.Kept.{record_kept}
 use Rattle.byte_disk.proofs.Chosen.{covered, image_left, image_length, image_pending, image_settled, length_le, outside_of, pending_or, shortest_le}
 
 -- what the writes of a file may leave, one after the other, by places
-pub left_is : (held : List ℕ) (ws : List Change) → AreKept held ws → (image : List ℕ) → LeavesFile held ws image → IsLeft held ws image
+left_is : (held : List ℕ) (ws : List Change) → AreKept held ws → (image : List ℕ) → LeavesFile held ws image → IsLeft held ws image
 left_is held [] kept image left = subst (λ (l : List ℕ). IsLeft held [] l) (sym left) (record {
   settled = λ i lt settled. refl;
   no_shorter = omega arith;
@@ -44,7 +44,7 @@ left_is held (w ∷ ws) kept image (before, left, any) =
     }
 
 -- an image that is told by places is its own choice
-pub left_chosen : (held : List ℕ) (ws : List Change) → AreKept held ws → (image : List ℕ) → IsLeft held ws image → image ≡ image_of held ws image
+left_chosen : (held : List ℕ) (ws : List Change) → AreKept held ws → (image : List ℕ) → IsLeft held ws image → image ≡ image_of held ws image
 left_chosen held ws kept image left =
     let same : length (image_of held ws image) ≡ length image = omega (arith, image_length held ws kept image, left.no_shorter, left.no_longer) in
     ext_get_or 0 image (image_of held ws image) (sym same) (λ i lt. ⊎_elim
@@ -54,7 +54,7 @@ left_chosen held ws kept image left =
     (pending_or ws i))
 
 -- and the writes may leave it, one after the other
-pub is_left : (held : List ℕ) (ws : List Change) → AreKept held ws → (image : List ℕ) → IsLeft held ws image → LeavesFile held ws image
+is_left : (held : List ℕ) (ws : List Change) → AreKept held ws → (image : List ℕ) → IsLeft held ws image → LeavesFile held ws image
 is_left held [] kept image left =
     ext_get_or 0 image held (omega (arith, left.no_shorter, left.no_longer)) (λ i lt. left.settled i lt (λ none. none))
 is_left held (w ∷ ws) kept image left =

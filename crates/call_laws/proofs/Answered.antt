@@ -22,7 +22,7 @@ synced = the_replies.Answer the_answers.Synced
 
 -- ---- one place more is replied to
 
-pub told_here : (told : List (Option Reply)) (t : ℕ) (reply : Reply) → t < length told
+told_here : (told : List (Option Reply)) (t : ℕ) (reply : Reply) → t < length told
     → slice_get (replied t reply told) t ≡ Some (Some reply)
 told_here [] t reply less = absurd (omega (arith, less))
 told_here (x ∷ told) zero reply less = refl
@@ -31,7 +31,7 @@ told_here (x ∷ told) (suc t) reply less = told_here told t reply (omega (arith
 other_after : (k t : ℕ) → (suc k == suc t) ≡ false → (k == t) ≡ false
 other_after k t other = ne_eqb k t (λ same. both_ways (suc k == suc t) other (eq-eqb (suc k) (suc t) (ap suc same)))
 
-pub told_else : (told : List (Option Reply)) (t k : ℕ) (reply : Reply) → (k == t) ≡ false
+told_else : (told : List (Option Reply)) (t k : ℕ) (reply : Reply) → (k == t) ≡ false
     → slice_get (replied t reply told) k ≡ slice_get told k
 told_else [] t k reply other = refl
 told_else (x ∷ told) zero zero reply other = absurd (both_ways (0 == 0) other (eq-eqb 0 0 refl))

@@ -14,7 +14,7 @@ use Rattle.serving_promise.specs.Served.{View}
 use Rattle.serving_promise.specs.Steps.{StepCounts}
 use Rattle.order_laws.specs.Kept.{seen}
 
-pub one_at_least : (end : StepDone) → 1 ≤ least_commands end
+one_at_least : (end : StepDone) → 1 ≤ least_commands end
 one_at_least (ends.Read got) = omega arith
 one_at_least ends.Wrote = omega arith
 one_at_least ends.Flushed = omega arith

@@ -59,7 +59,7 @@ use Rattle.call_laws.proofs.DrainTies.{tied_faulted, tied_resting}
 -- ---- small facts
 
 -- where no fault is kept for a session, none goes
-pub without_none : (who : ℕ) (kept : List (ℕ × Twin)) → kept_for who kept ≡ [] → without_session who kept ≡ kept
+without_none : (who : ℕ) (kept : List (ℕ × Twin)) → kept_for who kept ≡ [] → without_session who kept ≡ kept
 without_none who [] none = refl
 without_none who (x ∷ kept) none = by (x.0 == who) none (without_none who kept)
   where

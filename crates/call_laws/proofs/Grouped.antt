@@ -78,7 +78,7 @@ due_same old new done syncs = ap (λ (n : ℕ). due_of n new.syncs) done ∙ ap 
 
 -- ---- a sync
 
-pub ended_by : (v : Rules) (on : Bool) (s : Space) (st : State) (here : ℕ) (text : List ℕ) → IsGrouped s st
+ended_by : (v : Rules) (on : Bool) (s : Space) (st : State) (here : ℕ) (text : List ℕ) → IsGrouped s st
     → IsAdmitted (ops_of v on s (index text)) (space.after v on s (index text)) st
     (fold after st (queues_at (map place_of (ops_of v on s (index text))) ++ events.Syncs here ∷ []))
 ended_by v on s st here text grouped =
@@ -99,7 +99,7 @@ last_waits ticket (x ∷ xs) w is = ap (λ (b : Bool). x.ticket == ticket || b) 
     either true = refl
     either false = refl
 
-pub begun_waits : (old new : State) (here due : ℕ) → new.syncs ≡ old.syncs ++ record { ticket = here; due = due } ∷ [] → is_waiting new here ≡ true
+begun_waits : (old new : State) (here due : ℕ) → new.syncs ≡ old.syncs ++ record { ticket = here; due = due } ∷ [] → is_waiting new here ≡ true
 begun_waits old new here due syncs =
     ap (λ (ss : List Waiter). list_any (λ r. r.ticket == here) new.requests || list_any (λ s. s.ticket == here) ss) syncs
     ∙ ap (λ (b : Bool). list_any (λ r. r.ticket == here) new.requests || b)
@@ -125,7 +125,7 @@ answered_by next st here [] grouped is = record {
 }
 answered_by next st here (op ∷ later) grouped is = is
 
-pub unchanged_by : (s : Space) (st : State) (here : ℕ) (standing : List waiting.Op) → IsGrouped s st → s.changed ≡ false
+unchanged_by : (s : Space) (st : State) (here : ℕ) (standing : List waiting.Op) → IsGrouped s st → s.changed ≡ false
     → IsAdmitted [] s st (fold after st (events.Syncs here ∷ synced_at here standing))
 unchanged_by s st here standing grouped same =
     let ended = syncs_of_nothing_end_none.ended s st here grouped same in

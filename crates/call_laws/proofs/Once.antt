@@ -119,7 +119,7 @@ same_part_itself : (a : Part) → same_part a a ≡ true
 same_part_itself Ip = refl
 same_part_itself Dp = refl
 
-pub asks_itself : (r : Request) → asks r.ticket r.place r ≡ true
+asks_itself : (r : Request) → asks r.ticket r.place r ≡ true
 asks_itself r =
     ap (λ b. b && same_place r.place r.place) (eq-eqb r.ticket r.ticket refl)
     ∙ ap (λ b. b && r.place.pos == r.place.pos) (same_part_itself r.place.part) ∙ eq-eqb r.place.pos r.place.pos refl

@@ -78,7 +78,7 @@ reading_still g on history planned told st now r same h = record {
   asked = subst (λ (rs : List Request). list_any (is_of r.ticket) rs ≡ true) (sym same) h.asked;
 }
 
-pub reads_still : (g : Given) (on : Option ℕ) (history : List Placed) (planned : Items) (told : Option Cartridge) (ops : List Op) (st now : State) (reads : List Gathering) → now.requests ≡ st.requests
+reads_still : (g : Given) (on : Option ℕ) (history : List Placed) (planned : Items) (told : Option Cartridge) (ops : List Op) (st now : State) (reads : List Gathering) → now.requests ≡ st.requests
     → AreReading g on history planned told ops st reads → AreReading g on history planned told ops now reads
 reads_still g on history planned told ops st now reads same h = record {
   each = λ k d less. reading_still g on history planned told st now (slice_index_or reads k d) same (h.each k d less);

@@ -47,12 +47,12 @@ stored_list [] = refl
 stored_list (Zeros count ∷ pieces) = stored_list pieces
 stored_list (Stored place byte count ∷ pieces) = ap (λ places. place ∷ places) (stored_list pieces)
 
-pub place_stored : (place : Place) (pieces : List Piece) → has_place place (places_in pieces) ≡ true → Contains (filter_map stored_at pieces) place
+place_stored : (place : Place) (pieces : List Piece) → has_place place (places_in pieces) ≡ true → Contains (filter_map stored_at pieces) place
 place_stored place pieces has =
     subst (λ places. Contains places place) (stored_list pieces)
     (has_in place (flat_map place_in pieces) (sym (has_distinct (flat_map place_in pieces) place) ∙ has))
 
-pub stored_place : (place : Place) (pieces : List Piece) → Contains (filter_map stored_at pieces) place → has_place place (places_in pieces) ≡ true
+stored_place : (place : Place) (pieces : List Piece) → Contains (filter_map stored_at pieces) place → has_place place (places_in pieces) ≡ true
 stored_place place pieces has =
     has_distinct (flat_map place_in pieces) place
     ∙ in_has place (flat_map place_in pieces) (subst (λ places. Contains places place) (sym (stored_list pieces)) has)

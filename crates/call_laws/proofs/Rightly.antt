@@ -28,7 +28,7 @@ longer_than xs ys x more same =
     omega (arith, one, none, length-append xs (x ∷ []))
 
 -- no sync has to be answered first
-pub none_is_due : (st : State) → due_ticket st ≡ None → is_due st ≡ false
+none_is_due : (st : State) → due_ticket st ≡ None → is_due st ≡ false
 none_is_due st none = by st.syncs refl
   where
     by_test : (b : Bool) (ticket : ℕ) → cond b (Some ticket) None ≡ None → b ≡ false

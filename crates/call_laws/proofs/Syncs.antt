@@ -77,7 +77,7 @@ none_at_start : (a : Bool) → (false ≡ true) ⊎ (a ≡ true) → a ≡ true
 none_at_start a (inl never) = absurd (cc)
 none_at_start a (inr is) = is
 
-pub has_begun : (events : List Event) (k : ℕ) → list_any (syncs_it k) (after_all events).syncs ≡ true
+has_begun : (events : List Event) (k : ℕ) → list_any (syncs_it k) (after_all events).syncs ≡ true
     → has k (filter_map syncs_ticket events) ≡ true
 has_begun events k h = none_at_start (has k (filter_map syncs_ticket events)) (began start events k h)
 

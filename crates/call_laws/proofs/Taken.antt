@@ -73,7 +73,7 @@ apart_join : (r : Gathering) (front : List Gathering) (one : Gathering) (behind 
 apart_join r front one behind all =
     all_join (Apart r) front behind (all_front (Apart r) front (one ∷ behind) all) (All-tail (Apart r) one behind (all_behind (Apart r) front (one ∷ behind) all))
 
-pub apart_without : (front : List Gathering) (one : Gathering) (behind : List Gathering)
+apart_without : (front : List Gathering) (one : Gathering) (behind : List Gathering)
     → AllPairs Apart (front ++ one ∷ behind) → AllPairs Apart (front ++ behind)
 apart_without [] one behind pairs = apart_tail one behind pairs
 apart_without (r ∷ front) one behind pairs =
@@ -87,7 +87,7 @@ apart_other r front one next behind same all =
     all_join (Apart r) front (next ∷ behind) (all_front (Apart r) front (one ∷ behind) all)
     (All-cons (Apart r) next behind (ap (λ t. r.ticket == t) same ∙ All-head (Apart r) one behind later) (All-tail (Apart r) one behind later))
 
-pub apart_with : (front : List Gathering) (one next : Gathering) (behind : List Gathering) → next.ticket ≡ one.ticket
+apart_with : (front : List Gathering) (one next : Gathering) (behind : List Gathering) → next.ticket ≡ one.ticket
     → AllPairs Apart (front ++ one ∷ behind) → AllPairs Apart (front ++ next ∷ behind)
 apart_with [] one next behind same pairs =
     AllPairs-cons Apart next behind (subst (λ t. All (λ (b : Gathering). (t == b.ticket) ≡ false) behind) (sym same) (apart_head one behind pairs)) (apart_tail one behind pairs)

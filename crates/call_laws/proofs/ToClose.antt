@@ -35,7 +35,7 @@ use Rattle.call_laws.specs.Running.{IsReadyToClose}
 -- ---- what is planned at the start
 
 -- what a cartridge was on its way to without an op is its items so far
-pub way_done : (planned : Items) (c : Cartridge) (way : IsOnWay planned [] c) (part : Part)
+way_done : (planned : Items) (c : Cartridge) (way : IsOnWay planned [] c) (part : Part)
     → planned part ≡ take (length (planned part)) (items_of part c)
 way_done planned c way part =
     let here : planned part ≡ way.plan.made part = way.plan.leads part ∙ append-nil (way.plan.made part) in

@@ -29,7 +29,7 @@ use Rattle.call_laws.proofs.TurnSteps.{Came, Rightly, came_by, came_none, turns_
 
 -- ---- what is handed out
 
-pub handed_is : {D : Type 0} (who ticket : ℕ) (reply : Reply) (p new : Parts D) → HandsOut who ticket reply p new
+handed_is : {D : Type 0} (who ticket : ℕ) (reply : Reply) (p new : Parts D) → HandsOut who ticket reply p new
     → new ≡ handed p who ticket reply new.block new.listed.spare
 handed_is who ticket reply p new h = λ i. record {
   drive = h.drive i;

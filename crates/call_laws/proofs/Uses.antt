@@ -50,7 +50,7 @@ use Rattle.call_laws.proofs.ReadBlocks.{blocks_stand}
 -- ---- lists
 
 -- two tests that agree on a list leave the same of it
-pub filter_alike : {X : Type 0} (f g : X → Bool) (xs : List X) → ((x : X) → Contains xs x → f x ≡ g x) → filter f xs ≡ filter g xs
+filter_alike : {X : Type 0} (f g : X → Bool) (xs : List X) → ((x : X) → Contains xs x → f x ≡ g x) → filter f xs ≡ filter g xs
 filter_alike f g [] same = refl
 filter_alike f g (x ∷ xs) same =
     ap (λ b. cond b (x ∷ filter f xs) (filter f xs)) (same x (in_first x xs))

@@ -24,7 +24,7 @@ or_second true b h = absurd (cc)
 or_second false b h = h
 
 -- what was done at a place is done there with one op less
-pub still_done : (planned : Items) (op : Op) (later : List Op) (place : Place) → IsDoneAt planned (op ∷ later) place
+still_done : (planned : Items) (op : Op) (later : List Op) (place : Place) → IsDoneAt planned (op ∷ later) place
     → IsDoneAt planned later place
 still_done planned op later place d = record {
   below = d.below;

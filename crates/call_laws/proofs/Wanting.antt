@@ -52,7 +52,7 @@ requests_are here (place ∷ places) st =
 
 -- ---- what is asked for
 
-pub has_same : (place : Place) (places : List Place) → list_any (same_place place) places ≡ has_place place places
+has_same : (place : Place) (places : List Place) → list_any (same_place place) places ≡ has_place place places
 has_same place [] = refl
 has_same place (x ∷ xs) =
     ap (λ t. same_place place x || t) (has_same place xs)

@@ -54,7 +54,7 @@ note_once bytes a b h k =
     λ i. record { vcr = vcr i; generation = generation i; block = block i; uuid = uuid i }
 
 -- a note has its values in one way
-pub values_once : (note : Note) (a b : Coherency) → HasValues note a → HasValues note b → a ≡ b
+values_once : (note : Note) (a b : Coherency) → HasValues note a → HasValues note b → a ≡ b
 values_once Absent a b h k = absurd h
 values_once (Kept bytes) a b h k = note_once bytes a b h k
 

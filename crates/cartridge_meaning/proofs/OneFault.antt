@@ -36,13 +36,13 @@ Excludes P F = (e : MountErr) → F e → P → ⊥
 abbrev pub Then : Type 0 → (F G : MountErr → Type 0) → MountErr → Type 0
 Then P F G e = F e ⊎ (P × G e)
 
-pub then_once : (P : Type 0) (F G : MountErr → Type 0) → Excludes P F → Once F → Once G → Once (Then P F G)
+then_once : (P : Type 0) (F G : MountErr → Type 0) → Excludes P F → Once F → Once G → Once (Then P F G)
 then_once P F G apart one more e f (inl a) (inl b) = one e f a b
 then_once P F G apart one more e f (inl a) (inr b) = absurd (apart e a b.0)
 then_once P F G apart one more e f (inr a) (inl b) = absurd (apart f b a.0)
 then_once P F G apart one more e f (inr a) (inr b) = more e f a.1 b.1
 
-pub then_none : (P : Type 0) (F G : MountErr → Type 0) → Excludes P F → P → ((e : MountErr) → ¬ G e) → (e : MountErr) → ¬ Then P F G e
+then_none : (P : Type 0) (F G : MountErr → Type 0) → Excludes P F → P → ((e : MountErr) → ¬ G e) → (e : MountErr) → ¬ Then P F G e
 then_none P F G apart p more e (inl a) = apart e a p
 then_none P F G apart p more e (inr b) = more e b.1
 

@@ -93,7 +93,7 @@ by_ask v on s change is = before is
 by_ask v on s (store wanted bytes) is = before is
 by_ask v on s (index text) is = now text refl
 
-pub admitted_by : (v : Rules) (on : Bool) (old new : Space) (asked : List Op) → IsAsk v on old new asked
+admitted_by : (v : Rules) (on : Bool) (old new : Space) (asked : List Op) → IsAsk v on old new asked
     → new.admitted ≡ true → IsAdmittedBy v on old asked
 admitted_by v on old new asked its is =
     subst (λ (l : List Op). IsAdmittedBy v on old l) (sym its.ops)

@@ -59,7 +59,7 @@ use Rattle.closing_laws.proofs.OwnPlaces.{newest_first, own_ask, places_alike, v
 
 -- ---- links stay links as the index partition goes on
 
-pub links_further : (label : Label) (end more : ℕ) → end ≤ more → (after : Option ℕ) (older ks : List Construct)
+links_further : (label : Label) (end more : ℕ) → end ≤ more → (after : Option ℕ) (older ks : List Construct)
     (own : List Index) → LinkDownTo label end after older ks own → LinkDownTo label more after older ks own
 links_further label end more le after older ks [] l = l
 links_further label end more le after older [] (i ∷ own) l = absurd l
@@ -107,7 +107,7 @@ trees_as label end c newest tree other most same (p ∷ places) all (i ∷ own) 
 )
 
 -- what was planned stands on a cartridge whose data partition is just that
-pub stands_on : (label : Label) → label.index ≢ label.dpart → (planned : Items) (newest : ℕ) (tree : ℕ → Tree)
+stands_on : (label : Label) → label.index ≢ label.dpart → (planned : Items) (newest : ℕ) (tree : ℕ → Tree)
     (older : List Construct) (places : List ℕ) (c : Cartridge) → c.dp ≡ planned Dp → length (planned Ip) ≤ ip_end c
     → take (length (planned Ip)) c.ip ≡ planned Ip
     → HasOwn label (length (planned Ip)) (cartridge_on planned) newest tree older places

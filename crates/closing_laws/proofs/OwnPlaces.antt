@@ -56,7 +56,7 @@ void_places g on history p f =
     none is = rw is refl
 
 -- the newest of them first
-pub one_first : (k : ℕ) (ask : Ask) → reverse (place_of_index k ask) ≡ place_of_index k ask
+one_first : (k : ℕ) (ask : Ask) → reverse (place_of_index k ask) ≡ place_of_index k ask
 one_first k nothing = refl
 one_first k change = refl
 one_first k (store wanted bytes) = refl

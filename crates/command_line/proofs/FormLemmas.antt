@@ -43,7 +43,7 @@ names_differ words one other differ a b = apart words one other a.0 b.0 differ a
 pub plain_named : (words : List (String Global)) → IsPlain words → IsNamed (codes "plain") words
 plain_named words plain = (plain.1.0, plain.1.1)
 
-pub behind_named : (name : Text) (form : List Text → Type 0) (words : List (String Global)) → IsBehindFolder name form words → IsNamed name words
+behind_named : (name : Text) (form : List Text → Type 0) (words : List (String Global)) → IsBehindFolder name form words → IsNamed name words
 behind_named name form words is = (is.0 ∷ is.1, is.2)
 
 -- the forms of `label` begin with its name
@@ -318,7 +318,7 @@ view_spelled words folder more (Err errors.Form) is none =
 view_spelled words folder more (Err errors.NoMemory) is none = tt
 
 -- an error of another kind than want of memory tells that the words aren't taken
-pub not_taken : (faults : Kinds) (e : Error) → HasKind faults e → (kind_of e ≡ kinds.OutOfMemory → ⊥) → faults ≡ [] → ⊥
+not_taken : (faults : Kinds) (e : Error) → HasKind faults e → (kind_of e ≡ kinds.OutOfMemory → ⊥) → faults ≡ [] → ⊥
 not_taken [] e (inl memory) other none = other memory
 not_taken [] e (inr among) other none = among
 not_taken (k ∷ ks) e has other none = cc none

@@ -24,7 +24,7 @@ one_time (Some at) m n one other = one ∙ sym other
 one_time None m n one other = same_moment m n (one.0 ∙ sym other.0) (one.1 ∙ sym other.1)
 
 -- texts tell one volume
-pub one_volume : (given : Given) (a b : FormatWords) → IsTold given a → IsTold given b → a ≡ b
+one_volume : (given : Given) (a b : FormatWords) → IsTold given a → IsTold given b → a ≡ b
 one_volume given a b one other =
     let identifier : a.volume.volume ≡ b.volume.volume = same_of (identifier_told given.volume) a.volume.volume b.volume.volume one.identifier other.identifier in
     let uuid : a.volume.uuid ≡ b.volume.uuid = same_of (uuid_told given.uuid) a.volume.uuid b.volume.uuid one.uuid other.uuid in
@@ -39,7 +39,7 @@ one_volume given a b one other =
     }
 
 -- what the same texts tell
-pub told_alike : (f g : Text → Option Text) (asked : FormatWords) → ((name : Text) → f name ≡ g name) → IsTold (given_by f) asked → IsTold (given_by g) asked
+told_alike : (f g : Text → Option Text) (asked : FormatWords) → ((name : Text) → f name ≡ g name) → IsTold (given_by f) asked → IsTold (given_by g) asked
 told_alike f g asked same is = record {
   identifier = ap identifier_told (sym (same (codes "volid"))) ∙ is.identifier;
   uuid = ap uuid_told (sym (same (codes "uuid"))) ∙ is.uuid;

@@ -24,7 +24,7 @@ grown_in pos (Index mark (b ∷ blocks)) ks Mark = (record { mark = mark; blocks
 grown_in pos (Index mark blocks) ks Torn = ([], refl)
 grown_in pos (Bad at) ks x = ([], refl)
 
-pub grown : (items : List Item) (s : Content) → (more : List Construct) × ((fold seen s items).constructs ≡ more ++ s.constructs)
+grown : (items : List Item) (s : Content) → (more : List Construct) × ((fold seen s items).constructs ≡ more ++ s.constructs)
 grown [] s = ([], refl)
 grown (x ∷ items) s =
     let one = grown_in s.pos s.phase s.constructs x in
@@ -143,7 +143,7 @@ behind_index items k older m = (
 )
 
 -- a reading of so many items stands at that position
-pub stage_at : (items before behind : List Item) (s : Content) → readable items ≡ before ++ behind → fold seen start before ≡ s
+stage_at : (items before behind : List Item) (s : Content) → readable items ≡ before ++ behind → fold seen start before ≡ s
     → ((at : ℕ) → s.phase ≢ Bad at) → 4 + length before ≡ s.pos
 stage_at items before behind s parts stands sound =
     let whole = whole_before before behind (subst (λ (l : List Item). AreWhole l) parts (whole_behind 4 (front items) (front_whole items))) in
@@ -154,7 +154,7 @@ readable_cut : (items : List Item) (n : ℕ) → readable (take (4 + n) items) �
 readable_cut items n = ap (λ (l : List Item). drop 4 l) (front_cut (4 + n) items) ∙ drop-take 4 n (front items)
 
 -- a list that is cut there, or further up, is read on from there
-pub cut_stage : (items before behind : List Item) (s : Content) (n : ℕ) → readable items ≡ before ++ behind → fold seen start before ≡ s
+cut_stage : (items before behind : List Item) (s : Content) (n : ℕ) → readable items ≡ before ++ behind → fold seen start before ≡ s
     → ((at : ℕ) → s.phase ≢ Bad at) → content (take (s.pos + n) items) ≡ fold seen s (take n behind)
 cut_stage items before behind s n parts stands sound =
     let at : s.pos + n ≡ 4 + (length before + n) = omega (arith, stage_at items before behind s parts stands sound) in
@@ -179,7 +179,7 @@ after_from items k older m =
     omega (arith, stage_at items (m.before ++ Mark ∷ []) m.behind (in_data (after_of k) 0 (k ∷ older)) b.0 b.1 (data_sound (after_of k) 0 (k ∷ older)))
 
 -- a list that is cut has no other indexes than it had
-pub cut_has_no_more : (items : List Item) (n : ℕ) → 4 ≤ n → (more : List Construct) × ((content items).constructs ≡ more ++ (content (take n items)).constructs)
+cut_has_no_more : (items : List Item) (n : ℕ) → 4 ≤ n → (more : List Construct) × ((content items).constructs ≡ more ++ (content (take n items)).constructs)
 cut_has_no_more items n from =
     let rest : ℕ = n - 4 in
     let at : 4 + rest ≡ n = omega arith in
@@ -200,7 +200,7 @@ cut_behind_index items k newer older is =
     let b = behind_index items k older m in
     cut_at_stage items (m.before ++ Mark ∷ []) m.behind (in_data (after_of k) 0 (k ∷ older)) b.0 b.1 (data_sound (after_of k) 0 (k ∷ older))
 
-pub cut_has_index : (items : List Item) (k : Construct) (newer older : List Construct) (n : ℕ) → (content items).constructs ≡ newer ++ k ∷ older
+cut_has_index : (items : List Item) (k : Construct) (newer older : List Construct) (n : ℕ) → (content items).constructs ≡ newer ++ k ∷ older
     → after_of k ≤ n → (more : List Construct) × ((content (take n items)).constructs ≡ more ++ k ∷ older)
 cut_has_index items k newer older n is le =
     let m = content_met items k newer older is in

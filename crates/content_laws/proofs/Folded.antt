@@ -27,7 +27,7 @@ over_data (b ∷ blocks) pos since ks rest =
     let two : since + 1 + length blocks ≡ since + length (b ∷ blocks) = omega arith in
     over_data blocks (pos + 1) (since + 1) ks rest ∙ (λ t. fold seen (in_data (one t) (two t) ks) rest)
 
-pub over_index : (blocks begun : List (List ℕ)) (pos mark : ℕ) (ks : List Construct) (rest : List Item)
+over_index : (blocks begun : List (List ℕ)) (pos mark : ℕ) (ks : List Construct) (rest : List Item)
     → fold seen (in_index pos mark begun ks) (map Block blocks ++ rest) ≡ fold seen (in_index (pos + length blocks) mark (begun ++ blocks) ks) rest
 over_index [] begun pos mark ks rest =
     let one : pos ≡ pos + 0 = omega arith in

@@ -15,7 +15,7 @@ use Rattle.content_laws.proofs.Whole.{front_append, front_blocks, front_item, fr
 pub content_torn : (items : List Item) → content (items ++ Torn ∷ []) ≡ content items
 content_torn items = ap (λ (l : List Item). fold seen start (drop 4 l)) (front_torn items)
 
-pub content_append : (items more : List Item) → front items ≡ items → 4 ≤ length items
+content_append : (items more : List Item) → front items ≡ items → 4 ≤ length items
     → content (items ++ more) ≡ fold seen (content items) (front more)
 content_append items more whole long =
     ap (λ (l : List Item). fold seen start (drop 4 l)) (front_append items more whole)
@@ -36,7 +36,7 @@ in_index_is : (s : Content) (mark : ℕ) (begun : List (List ℕ)) → s.phase �
 in_index_is s mark begun is = λ t. record { pos = s.pos; phase = is t; constructs = s.constructs }
 
 -- blocks behind data: no other index
-pub content_blocks : (items : List Item) (blocks : List (List ℕ)) (since : ℕ) → front items ≡ items → 4 ≤ length items
+content_blocks : (items : List Item) (blocks : List (List ℕ)) (since : ℕ) → front items ≡ items → 4 ≤ length items
     → (content items).phase ≡ Data since
     → content (items ++ map Block blocks) ≡ in_data ((content items).pos + length blocks) (since + length blocks) (content items).constructs
 content_blocks items blocks since whole long is =
@@ -46,7 +46,7 @@ content_blocks items blocks since whole long is =
     ∙ over_last_data blocks (content items).pos since (content items).constructs
 
 -- blocks in an index that was begun
-pub content_index_blocks : (items : List Item) (blocks : List (List ℕ)) (mark : ℕ) (begun : List (List ℕ)) → front items ≡ items → 4 ≤ length items
+content_index_blocks : (items : List Item) (blocks : List (List ℕ)) (mark : ℕ) (begun : List (List ℕ)) → front items ≡ items → 4 ≤ length items
     → (content items).phase ≡ Index mark begun
     → content (items ++ map Block blocks) ≡ in_index ((content items).pos + length blocks) mark (begun ++ blocks) (content items).constructs
 content_index_blocks items blocks mark begun whole long is =
@@ -59,7 +59,7 @@ front_index : (blocks : List (List ℕ)) → front (Mark ∷ (map Block blocks +
 front_index blocks = ap (λ (l : List Item). Mark ∷ l) (front_append (map Block blocks) (Mark ∷ []) (front_blocks blocks))
 
 -- a mark, blocks and a mark behind data: one index more
-pub content_construct : (items : List Item) (blocks : List (List ℕ)) (since : ℕ) → front items ≡ items → 4 ≤ length items
+content_construct : (items : List Item) (blocks : List (List ℕ)) (since : ℕ) → front items ≡ items → 4 ≤ length items
     → (content items).phase ≡ Data since → blocks ≢ []
     → content (items ++ (Mark ∷ (map Block blocks ++ Mark ∷ [])))
     ≡ in_data ((content items).pos + length blocks + 2) 0 (record { mark = (content items).pos; blocks = blocks } ∷ (content items).constructs)

@@ -85,7 +85,7 @@ cut_opened items before behind mark blocks ks parts phase constructs =
     )
 
 -- a list that is cut at the mark of an index has the indexes before it
-pub cut_before_index : (items : List Item) (k : Construct) (newer older : List Construct) → (content items).constructs ≡ newer ++ k ∷ older
+cut_before_index : (items : List Item) (k : Construct) (newer older : List Construct) → (content items).constructs ≡ newer ++ k ∷ older
     → (since : ℕ) × (content (take k.mark items) ≡ in_data k.mark since older)
 cut_before_index items k newer older is =
     let m = content_met items k newer older is in

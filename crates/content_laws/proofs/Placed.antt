@@ -109,7 +109,7 @@ lead_bounds pos (Data since) ks ordered ends = (omega (arith, end_dp_least ks or
 lead_bounds pos (Index mark blocks) ks ordered ends = (omega (arith, end_dp_least ks ordered, ends.0), omega (arith, ends.1))
 lead_bounds pos (Bad at) ks ordered ends = (omega (arith, end_dp_least ks ordered, ends.0), omega (arith, ends.1))
 
-pub lead_placed : (s : Content) → IsPlaced s → (4 ≤ lead_of s.pos s.phase) × (lead_of s.pos s.phase ≤ s.pos)
+lead_placed : (s : Content) → IsPlaced s → (4 ≤ lead_of s.pos s.phase) × (lead_of s.pos s.phase ≤ s.pos)
 lead_placed s placed = lead_bounds s.pos s.phase s.constructs placed.ordered placed.ends
 
 -- a reading that does not stop has gone over each item

@@ -54,7 +54,7 @@ front_torn (Mark ∷ items) = ap (λ (l : List Item). Mark ∷ l) (front_torn it
 front_torn (Torn ∷ items) = refl
 
 -- a front has no torn item
-pub front_front : (items : List Item) → front (front items) ≡ front items
+front_front : (items : List Item) → front (front items) ≡ front items
 front_front [] = refl
 front_front (Block bytes ∷ items) = ap (λ (l : List Item). Block bytes ∷ l) (front_front items)
 front_front (Mark ∷ items) = ap (λ (l : List Item). Mark ∷ l) (front_front items)

@@ -43,11 +43,11 @@ use Rattle.crash_laws.proofs.Waits.{all_mapped, all_more, all_weaker, kept_with}
 abbrev pub IsFree : Job → Type 0
 IsFree job = IsDpFlush job.op → ⊥
 
-pub settle_free : (jobs : List Job) (s : Made) → AllByRecursion IsFree jobs → Settle s jobs
+settle_free : (jobs : List Job) (s : Made) → AllByRecursion IsFree jobs → Settle s jobs
 settle_free [] s all = tt
 settle_free (job ∷ jobs) s all = ((λ flush. absurd (all.0 flush)), settle_free jobs (makes job s) all.1)
 
-pub settle_more : (jobs more : List Job) (s : Made) → Settle s jobs → Settle (after s jobs) more → Settle s (jobs ++ more)
+settle_more : (jobs more : List Job) (s : Made) → Settle s jobs → Settle (after s jobs) more → Settle s (jobs ++ more)
 settle_more [] more s all others = others
 settle_more (job ∷ jobs) more s all others = (all.0, settle_more jobs more (makes job s) all.1 others)
 
@@ -81,14 +81,14 @@ before_free rules space text e = all_more IsFree _ _
 last_settles : (front : List Job) (last : Job) (s : Made) → (after s (front ++ last ∷ [])).base.ahead ≡ None → Settle (after s front) (last ∷ [])
 last_settles front last s none = ((λ flush. sym (ap (λ (m : Made). m.base.ahead) (after_append front (last ∷ []) s)) ∙ none), tt)
 
-pub index_settle : (rules : Rules) (space : Space) (text : List ℕ) (e : CoveredIndex) (s : Made)
+index_settle : (rules : Rules) (space : Space) (text : List ℕ) (e : CoveredIndex) (s : Made)
     → (after s (index_jobs rules space text e)).base.ahead ≡ None → Settle s (index_jobs rules space text e)
 index_settle rules space text e s none =
     settle_more (before_flush rules space text e) (plain (ops.Flush (record { part = Dp; pos = space.ends.dp + 2 + blocks rules text })) ∷ []) s
     (settle_free (before_flush rules space text e) s (before_free rules space text e))
     (last_settles (before_flush rules space text e) (plain (ops.Flush (record { part = Dp; pos = space.ends.dp + 2 + blocks rules text }))) s none)
 
-pub none_more : (jobs more : List Job) (s : Made) → (after s jobs).base.ahead ≡ None → (after s (jobs ++ more)).base.ahead ≡ None
+none_more : (jobs more : List Job) (s : Made) → (after s jobs).base.ahead ≡ None → (after s (jobs ++ more)).base.ahead ≡ None
 none_more jobs more s none = ap (λ (m : Made). m.base.ahead) (after_append jobs more s) ∙ none_stays more (after s jobs) none
 
 -- ---- ops of jobs

@@ -46,7 +46,7 @@ use Rattle.crash_laws.proofs.Waits.{all_filter}
 pub state_after : (old new added : List Event) → new ≡ old ++ added → after_all new ≡ fold after (after_all old) added
 state_after old new added is = ap (λ (es : List Event). after_all es) is ∙ fold-append after start old added
 
-pub quiet_state : (old new added : List Event) → new ≡ old ++ added → AreQuiet added → IsKept (after_all old) (after_all new)
+quiet_state : (old new added : List Event) → new ≡ old ++ added → AreQuiet added → IsKept (after_all old) (after_all new)
 quiet_state old new added is quiet =
     let all = quiet_all (after_all old) added quiet in
     record {

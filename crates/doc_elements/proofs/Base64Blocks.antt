@@ -28,7 +28,7 @@ unpadded bs is =
     ap (λ n. encode_symbols standard.encode_table bs ++ replicate n 61) none ∙ append-nil (encode_symbols standard.encode_table bs)
 
 -- a block that stands for 768 bytes
-pub block_read : (block rest bs : List ℕ) → length block ≡ 1024 → 0 < length rest → length bs ≡ 768 → IsBytes bs → block ≡ encode_of standard bs
+block_read : (block rest bs : List ℕ) → length block ≡ 1024 → 0 < length rest → length bs ≡ 768 → IsBytes bs → block ≡ encode_of standard bs
     → decoded_of standard (block ++ rest) ≡ prepend_known bs (decoded_of standard rest)
 block_read block rest bs size some many are is =
     let whole : encode_symbols standard.encode_table bs ++ rest ≡ block ++ rest = ap (λ (l : List ℕ). l ++ rest) (sym (is ∙ unpadded bs many)) in
@@ -102,7 +102,7 @@ fewer dec s q n le none = cases (groups_error dec s q) refl
     cases (Some e) is = absurd (let bad : ◌≡◌ {A = Option DecodeError} (Some e) None = sym (groups_error_first dec s q n e is le) ∙ none in cc)
 
 -- where the whole stands for bytes, so does the block
-pub block_whole : (block rest bs : List ℕ) → length block ≡ 1024 → 0 < length rest → IsBytes (block ++ rest) → decode_of standard (block ++ rest) ≡ Ok bs
+block_whole : (block rest bs : List ℕ) → length block ≡ 1024 → 0 < length rest → IsBytes (block ++ rest) → decode_of standard (block ++ rest) ≡ Ok bs
     → (ds : List ℕ) × (decode_of standard block ≡ Ok ds) × (length ds ≡ 768)
 block_whole block rest bs size some bytes is =
     let enc = standard.encode_table in

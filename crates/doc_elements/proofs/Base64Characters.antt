@@ -65,7 +65,7 @@ no_more : (ds : List ℕ) → ◌≡◌ {A = Read (List ℕ)} (Ok []) (Ok ds) �
 no_more ds e = cc
 
 -- none is left
-pub decoding_ends : (whole left behind_it : Read (List ℕ)) (out block : List ℕ) → IsDecoding whole left out block → IsTaken None left behind_it
+decoding_ends : (whole left behind_it : Read (List ℕ)) (out block : List ℕ) → IsDecoding whole left out block → IsTaken None left behind_it
     → (cs : List ℕ) → whole ≡ Ok cs → behind out block ≡ from_base64 (encode_utf8_all cs)
 decoding_ends whole left behind_it out block kept none cs told =
     let k = kept cs told in
@@ -73,6 +73,6 @@ decoding_ends whole left behind_it out block kept none cs told =
     ap (behind out) (sym (append-nil block)) ∙ ap (λ ds. behind out (block ++ without_space (encode_utf8_all ds))) (sym empty) ∙ k.2
 
 -- a text whose characters may all stand there isn't refused
-pub decoding_fails : (whole left behind_it : Read (List ℕ)) (out block : List ℕ) (fault : FieldErr) → IsDecoding whole left out block → IsTaken (Some (Err fault)) left behind_it
+decoding_fails : (whole left behind_it : Read (List ℕ)) (out block : List ℕ) (fault : FieldErr) → IsDecoding whole left out block → IsTaken (Some (Err fault)) left behind_it
     → (cs : List ℕ) → whole ≡ Ok cs → None ≡ from_base64 (encode_utf8_all cs)
 decoding_fails whole left behind_it out block fault kept refused cs told = let k = kept cs told in absurd (let bad : ◌≡◌ {A = Read (List ℕ)} (Err fault) (Ok k.0) = sym refused ∙ k.1 in cc)

@@ -32,11 +32,11 @@ pub lift_ok : {A : Type 0} (r : Read A) (x : A) → lift r ≡ Ok x → r ≡ Ok
 lift_ok (Ok y) x e = let same : y ≡ x = cc in ap (λ z. Ok z) same
 lift_ok (Err d) x e = absurd cc
 
-pub guard_ok : {A : Type 0} (b : Bool) (d : PieceErr) (x y : A) → cond b (Ok x) (Err d) ≡ Ok y → (b ≡ true) × (x ≡ y)
+guard_ok : {A : Type 0} (b : Bool) (d : PieceErr) (x y : A) → cond b (Ok x) (Err d) ≡ Ok y → (b ≡ true) × (x ≡ y)
 guard_ok true d x y e = (refl, cc)
 guard_ok false d x y e = absurd cc
 
-pub missing_ok : (o : Option Tag) (u : Unit {0}) → none_missing o ≡ Ok u → o ≡ None
+missing_ok : (o : Option Tag) (u : Unit {0}) → none_missing o ≡ Ok u → o ≡ None
 missing_ok None u e = refl
 missing_ok (Some t) u e = absurd cc
 
@@ -70,11 +70,11 @@ verdict_ok f nodes at tag c e =
     let same : r ≡ c = cc (few.1) in
     record { child = same; follows = record { alone = alone.0; once = once.0 }; room = subst (λ (x : Child). (opens_node x && nat_le most_nodes nodes) ≡ false) same few.0 }
 
-pub leaf_verdict : (f : Frame) (nodes at : ℕ) (tag : Tag) (form : Form) → rule f.place tag ≡ child.Leaf form → MayFollow f.place f.seen tag → verdict f nodes at tag ≡ Ok (child.Leaf form)
+leaf_verdict : (f : Frame) (nodes at : ℕ) (tag : Tag) (form : Form) → rule f.place tag ≡ child.Leaf form → MayFollow f.place f.seen tag → verdict f nodes at tag ≡ Ok (child.Leaf form)
 unfolding verdict
 leaf_verdict f nodes at tag form is m = rw (is, m.alone, m.once) refl
 
-pub parent_verdict : (f : Frame) (nodes at : ℕ) (tag : Tag) (q : Container) → rule f.place tag ≡ child.Parent q → MayFollow f.place f.seen tag → (opens_node (child.Parent q) && nat_le most_nodes nodes) ≡ false → verdict f nodes at tag ≡ Ok (child.Parent q)
+parent_verdict : (f : Frame) (nodes at : ℕ) (tag : Tag) (q : Container) → rule f.place tag ≡ child.Parent q → MayFollow f.place f.seen tag → (opens_node (child.Parent q) && nat_le most_nodes nodes) ≡ false → verdict f nodes at tag ≡ Ok (child.Parent q)
 unfolding verdict
 parent_verdict f nodes at tag q is m room = rw (is, m.alone, m.once, room) refl
 

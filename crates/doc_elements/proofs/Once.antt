@@ -24,7 +24,7 @@ pub record SameEnd (ps qs : List Piece) (a b : Point) : Type 0 where
 no_more : (text : List ℕ) (at : ℕ) (f : Frame) (fs : List Frame) (nodes : ℕ) (p : Piece × ℕ) → Final text at (f ∷ fs) nodes → piece_at f nodes text at ≡ Ok p → ⊥
 no_more text at f fs nodes p final ok = let both : Err final.0 ≡ Ok p = sym final.1 ∙ ok in cc
 
-pub same_end : (text : List ℕ) (ps qs : List Piece) (at : ℕ) (fs : List Frame) (nodes : ℕ) (a b : Point)
+same_end : (text : List ℕ) (ps qs : List Piece) (at : ℕ) (fs : List Frame) (nodes : ℕ) (a b : Point)
     → Reaches text ps at fs nodes a → IsFinal text a → Reaches text qs at fs nodes b → IsFinal text b → SameEnd ps qs a b
 same_end text [] [] at fs nodes a b r final s final2 = record { pieces = refl; ends = r ∙ sym s }
 same_end text [] (q ∷ qs) at [] nodes a b r final s final2 = absurd s
@@ -44,7 +44,7 @@ same_end text (p ∷ ps) (q ∷ qs) at (f ∷ fs) nodes a b r final s final2 =
     record { pieces = whole; ends = rest.ends }
 
 -- the same for what is open in a text
-pub same_open : (doc : Container) (text : List ℕ) (ps qs : List Piece) (a b : Point) → Open doc text ps a → IsFinal text a → Open doc text qs b → IsFinal text b → SameEnd ps qs a b
+same_open : (doc : Container) (text : List ℕ) (ps qs : List Piece) (a b : Point) → Open doc text ps a → IsFinal text a → Open doc text qs b → IsFinal text b → SameEnd ps qs a b
 same_open doc text ps qs a b x final y final2 =
     let heads : ◌≡◌ {A = Result ℕ PieceErr} (Ok x.inside) (Ok y.inside) = sym x.head_is ∙ y.head_is in
     let insides : x.inside ≡ y.inside = cc in

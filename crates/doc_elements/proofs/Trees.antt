@@ -108,7 +108,7 @@ pub record Parsed (text : List ℕ) (p : Container) (seen : List Tag) (fs : List
 joined : (x y : Piece) (ps front mid bs rest : List Piece) → ps ≡ front ++ y ∷ mid → mid ≡ bs ++ y ∷ rest → x ∷ ps ≡ x ∷ (front ++ y ∷ []) ++ bs ++ y ∷ rest
 joined x y ps front mid bs rest e f = rw (e, f) (simp append_assoc)
 
-pub parse : (n : ℕ) (ps : List Piece) (text : List ℕ) (p : Container) (seen : List Tag) (fs : List Frame) (at nodes : ℕ) (to : Point) → length ps ≤ n → to.parents ≡ [] → Reaches text ps at (at_place p seen ∷ fs) nodes to → Parsed text p seen fs at nodes ps to
+parse : (n : ℕ) (ps : List Piece) (text : List ℕ) (p : Container) (seen : List Tag) (fs : List Frame) (at nodes : ℕ) (to : Point) → length ps ≤ n → to.parents ≡ [] → Reaches text ps at (at_place p seen ∷ fs) nodes to → Parsed text p seen fs at nodes ps to
 parse n [] text p seen fs at nodes to le none r = let bad : [] ≡ at_place p seen ∷ fs = sym none ∙ ap (λ (x : Point). x.parents) r in absurd (cc)
 parse zero (x ∷ ps) text p seen fs at nodes to le none r = absurd (omega (arith, le))
 parse (suc n) (closes ∷ ps) text p seen fs at nodes to le none r =

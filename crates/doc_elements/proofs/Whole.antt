@@ -25,7 +25,7 @@ unless_map _ P Q f p = f p
 pub halted_halts : (doc : Container) (text : List ℕ) (inside : ℕ) (e : PieceErr) → head_of doc text ≡ Ok inside → Halted doc text inside e → Halts doc text e
 halted_halts doc text inside e h x = at_piece x.ps x.point x.f x.fs (record { inside = inside; head_is = h; reaches = x.reaches }) x.parents x.fails
 
-pub lifted : {A : Type 0} (r : Read A) (e : FieldErr) → r ≡ Err e → lift r ≡ Err (refusal e.why e.at)
+lifted : {A : Type 0} (r : Read A) (e : FieldErr) → r ≡ Err e → lift r ≡ Err (refusal e.why e.at)
 lifted r e h = rw h refl
 
 -- a text in UTF-8 is all readable

@@ -22,7 +22,7 @@ range_more text from i le lt =
 escape_more : (text : List ℕ) (i : ℕ) → i < length text → escape (take (i + 1) text) ≡ escape (take i text) ++ escaped (get_or text i 0)
 escape_more text i lt = ap escape (take_more text i 0 lt) ∙ flat_map-append escaped (take i text) (get_or text i 0 ∷ []) ∙ ap (λ (e : List ℕ). escape (take i text) ++ e) (append-nil (escaped (get_or text i 0)))
 
-pub begins_kept : (old text : List ℕ) → IsKept old old text 0 0
+begins_kept : (old text : List ℕ) → IsKept old old text 0 0
 begins_kept old text = record { ordered = omega arith; front = ([], sym (append-nil old)); so_far = refl }
 
 -- a byte that is written as itself joins the run that is still to be copied
@@ -45,7 +45,7 @@ escape_kept old out run new text word from i lt is put_run put_word h =
       so_far = ap (λ (n : ℕ). new ++ take n (drop (i + 1) text)) none ∙ append-nil new ∙ all;
     }
 
-pub ends_kept : (old out new text : List ℕ) (from : ℕ) → new ≡ out ++ drop from text → IsKept old out text from (length text) → new ≡ old ++ escape text
+ends_kept : (old out new text : List ℕ) (from : ℕ) → new ≡ out ++ drop from text → IsKept old out text from (length text) → new ≡ old ++ escape text
 ends_kept old out new text from put h =
     let rest : slice_range text from (length text) ≡ drop from text = take_all (length text - from) (drop from text) (omega (arith, length-drop from text)) in
     put ∙ ap (λ (l : List ℕ). out ++ l) (sym rest) ∙ h.so_far ∙ ap (λ (t : List ℕ). old ++ escape t) (take_all (length text) text (omega arith))

@@ -49,7 +49,7 @@ no_fault d y e = cc
 
 -- ---- bytes
 
-pub run_after : (p : ℕ → Bool) (at : ℕ) (bytes : List ℕ) → at ≤ run_end p at bytes
+run_after : (p : ℕ → Bool) (at : ℕ) (bytes : List ℕ) → at ≤ run_end p at bytes
 run_after p at [] = omega arith
 run_after p at (b ∷ bytes) = elim (p b) as (λ v. at ≤ cond v (run_end p (at + 1) bytes) at) [
   | true ↦ omega (arith, run_after p (at + 1) bytes)

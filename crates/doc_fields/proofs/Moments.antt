@@ -111,7 +111,7 @@ moment_at c t year nanos =
       }),
     )
 
-pub read_moment : (text : List ℕ) (c : Civil) → civil_in text ≡ Some c → HasMoment c
+read_moment : (text : List ℕ) (c : Civil) → civil_in text ≡ Some c → HasMoment c
 unfolding civil_in
 read_moment text c e = by (bytes_eq text (civil_text (numbers_in text)) && is_civil (numbers_in text)) refl e
   where

@@ -118,7 +118,7 @@ found name (u ∷ ts) t e =
     ] in
     either (same name (spelled u)) refl e
 
-pub named_is : (name : List ℕ) (t : Tag) → tag_named name ≡ Some t → name ≡ spelled t
+named_is : (name : List ℕ) (t : Tag) → tag_named name ≡ Some t → name ≡ spelled t
 unfolding tag_named
 named_is name t e = found name all_tags t e
 

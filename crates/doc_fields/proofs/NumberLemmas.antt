@@ -22,7 +22,7 @@ pub of_good : (at n end : ℕ) → at < end → end ≤ at + 20 → n < 2 ^ 64 �
 of_good at n end some near small = grind (arith, nat_tests)
 
 -- one digit more
-pub digit_below : (k n d : ℕ) → n < 10 ^ k → d < 10 → n * 10 + d < 10 ^ (k + 1)
+digit_below : (k n d : ℕ) → n < 10 ^ k → d < 10 → n * 10 + d < 10 ^ (k + 1)
 digit_below k n d lt small = grind (arith, common_steps)
 
 -- a number of up to 18 digits is below the least of 19

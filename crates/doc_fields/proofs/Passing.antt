@@ -15,7 +15,7 @@ pub record IsPassed (text : List ℕ) (place count : ℕ) (rest : List ℕ) (at 
   pub fewer : length rest ≤ length text
   pub stands : (cut : Bool) → resolved cut count place (chars text) ≡ resolved cut more at (chars rest)
 
-pub pass_begins : (text : List ℕ) (place count : ℕ) → IsUtf8 text → IsPassed text place count text place count
+pass_begins : (text : List ℕ) (place count : ℕ) → IsUtf8 text → IsPassed text place count text place count
 pass_begins text place count valid = record { valid = valid; total = refl; fewer = omega arith; stands = λ cut. refl }
 
 -- one is passed over
@@ -44,7 +44,7 @@ none_is_left cut [] at more e = ends more
 none_is_left cut (b ∷ rest) at more e = absurd (omega (arith, e))
 
 -- what the next character stands for
-pub unit_step : (cut : Bool) (rest behind : List ℕ) (place c : ℕ) → IsUtf8 rest → rest ≡ encode_utf8 c ++ behind → (r : Read (ℕ × ℕ)) → unit_at cut place c behind ≡ r
+unit_step : (cut : Bool) (rest behind : List ℕ) (place c : ℕ) → IsUtf8 rest → rest ≡ encode_utf8 c ++ behind → (r : Read (ℕ × ℕ)) → unit_at cut place c behind ≡ r
     → resolved cut 0 place (chars rest) ≡ with_unit r (λ skip. resolved cut skip (place + length (encode_utf8 c)) (chars behind))
 unit_step cut rest behind place c valid e r is =
     let first : chars rest ≡ c ∷ chars behind = chars_past_char rest behind c valid e in

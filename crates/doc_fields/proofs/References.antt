@@ -35,7 +35,7 @@ grows base n d h one = omega (arith, more n base one)
     more n (suc base) one = omega arith
 
 -- a number past the last character's only grows
-pub large_none : (base n k : ℕ) (bytes : List ℕ) → 1 ≤ base → 0x10FFFF < n → numbered base n k bytes ≡ None
+large_none : (base n k : ℕ) (bytes : List ℕ) → 1 ≤ base → 0x10FFFF < n → numbered base n k bytes ≡ None
 large_none base n k [] one h = refl
 large_none base n k (b ∷ rest) one h =
     let go : (o : Option ℕ) → and_then o (λ d. numbered base (n * base + d) (k + 1) rest) ≡ None = λ o. elim o as (λ o. and_then o (λ d. numbered base (n * base + d) (k + 1) rest) ≡ None) [ None ↦ refl | Some d ↦ large_none base (n * base + d) (k + 1) rest one (grows base n d h one) ] in
@@ -44,7 +44,7 @@ large_none base n k (b ∷ rest) one h =
       | false ↦ go (digit_of base b)
     ]
 
-pub large_false : (base n : ℕ) (bytes : List ℕ) → 1 ≤ base → 0x10FFFF < n → is_cut_number base n bytes ≡ false
+large_false : (base n : ℕ) (bytes : List ℕ) → 1 ≤ base → 0x10FFFF < n → is_cut_number base n bytes ≡ false
 large_false base n [] one h = grind (arith, nat_tests)
 large_false base n (b ∷ rest) one h =
     let go : (o : Option ℕ) → and_also o (λ d. is_cut_number base (n * base + d) rest) ≡ false = λ o. elim o as (λ o. and_also o (λ d. is_cut_number base (n * base + d) rest) ≡ false) [ None ↦ refl | Some d ↦ large_false base (n * base + d) rest one (grows base n d h one) ] in

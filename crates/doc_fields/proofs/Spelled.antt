@@ -59,7 +59,7 @@ not_x : (b d : ℕ) → digit_of 10 b ≡ Some d → (eqb 120 b && true) ≡ fal
 not_x b d is = grind (arith, nat_tests)
 
 -- digits and a `;` are read as the number that they show
-pub numbered_spelled : (base n k : ℕ) (digits rest : List ℕ) (c : ℕ) → value_of base n digits ≡ Some c → numbered base n k (digits ++ 59 ∷ rest) ≡ finished c (k + length digits + 1)
+numbered_spelled : (base n k : ℕ) (digits rest : List ℕ) (c : ℕ) → value_of base n digits ≡ Some c → numbered base n k (digits ++ 59 ∷ rest) ≡ finished c (k + length digits + 1)
 numbered_spelled base n k [] rest c e =
     let same : n ≡ c = ap value e in
     let there : k + 1 ≡ k + 0 + 1 = omega arith in
@@ -134,7 +134,7 @@ more_digits base n k b bytes c taken behind (Some d) is x =
     let r = behind d x in
     record { digits = b ∷ r.digits; behind = r.behind; splits = ap (λ s. b ∷ s) r.splits; shows = rw is r.shows; ok = r.ok; long = omega (arith, r.long) }
 
-pub numbered_only : (base n k : ℕ) (bytes : List ℕ) (c taken : ℕ) → numbered base n k bytes ≡ Some (c, taken) → Digits base n k bytes c taken
+numbered_only : (base n k : ℕ) (bytes : List ℕ) (c taken : ℕ) → numbered base n k bytes ≡ Some (c, taken) → Digits base n k bytes c taken
 numbered_only base n k [] c taken e = absurd cc
 numbered_only base n k (b ∷ bytes) c taken e =
     elim (b == 59) as (λ (v : Bool). (b == 59) ≡ v → cond v (finished n (k + 1)) (and_then (digit_of base b) (λ d. numbered base (n * base + d) (k + 1) bytes)) ≡ done c taken → Digits base n k (b ∷ bytes) c taken) [

@@ -220,7 +220,7 @@ word_again w text at c rest some begin all e stop =
     let test : eqb (at + length w) (length text) ≡ false = grind (arith, nat_tests) in
     rw (begins, run, test) refl
 
-pub named_again : (text : List ℕ) (at : ℕ) (t : Tag) (c : ℕ) (rest : List ℕ) → drop at text ≡ 60 ∷ spelled t ++ c ∷ rest → in_name c ≡ false → named_at text at ≡ Ok (t, at + 1 + length (spelled t))
+named_again : (text : List ℕ) (at : ℕ) (t : Tag) (c : ℕ) (rest : List ℕ) → drop at text ≡ 60 ∷ spelled t ++ c ∷ rest → in_name c ≡ false → named_at text at ≡ Ok (t, at + 1 + length (spelled t))
 unfolding named_at
 named_again text at t c rest e stop =
     let g = name_good t in
@@ -386,7 +386,7 @@ type_text text tag from at rest may e =
     rw (k, other, there, v, begin, word, may, behind, h, last) refl
 
 -- the rest of a start tag, by its attribute
-pub rest_again : (text : List ℕ) (tag : Tag) (a : Attribute) (from at : ℕ) (rest : List ℕ) → may_have tag a ≡ true → drop at text ≡ attribute_text a ++ 62 ∷ rest → rest_at tag from text at ≡ Ok (record { tag = tag; attribute = a; empty = false; next = at + length (attribute_text a) + 1 })
+rest_again : (text : List ℕ) (tag : Tag) (a : Attribute) (from at : ℕ) (rest : List ℕ) → may_have tag a ≡ true → drop at text ≡ attribute_text a ++ 62 ∷ rest → rest_at tag from text at ≡ Ok (record { tag = tag; attribute = a; empty = false; next = at + length (attribute_text a) + 1 })
 rest_again text tag Absent from at rest may e =
     let other : is_root tag ≡ false = grind arith in
     let there : at + 1 ≡ at + 0 + 1 = omega arith in

@@ -30,7 +30,7 @@ put_more done c (Ok cs) = ap Ok (sym (append_assoc done (c ∷ []) cs))
 put_more done c (Err e) = refl
 
 -- at the beginning nothing is done
-pub begins_kept : (whole : Read (List ℕ)) (out : List ℕ) → out ≡ [] → IsKept whole whole out
+begins_kept : (whole : Read (List ℕ)) (out : List ℕ) → out ≡ [] → IsKept whole whole out
 begins_kept whole out none = record { done = []; written = none; so_far = put_none whole }
 
 -- one character more is done
@@ -71,17 +71,17 @@ fails e read is = by_why e.why
 abbrev pub AreLooked : Read (List ℕ) → Read (List ℕ) → Type 0
 AreLooked whole left = (out : List ℕ) × IsKept whole left out
 
-pub looks_begin : (whole : Read (List ℕ)) → AreLooked whole whole
+looks_begin : (whole : Read (List ℕ)) → AreLooked whole whole
 looks_begin whole = ([], begins_kept whole [] refl)
 
 -- one character more has been read
 pub looks_on : (whole left behind : Read (List ℕ)) (c : ℕ) → AreLooked whole left → IsTaken (Some (Ok c)) left behind → AreLooked whole behind
 looks_on whole left behind c h one = (h.0 ++ encode_utf8 c, takes_unit whole left behind c h.0 _ h.1 one refl)
 
-pub looked_all : (whole left behind : Read (List ℕ)) → AreLooked whole left → IsTaken None left behind → (cs : List ℕ) × (whole ≡ Ok cs)
+looked_all : (whole left behind : Read (List ℕ)) → AreLooked whole left → IsTaken None left behind → (cs : List ℕ) × (whole ≡ Ok cs)
 looked_all whole left behind h none = (h.1.done, sym (ap Ok (sym (append-nil h.1.done)) ∙ sym (ap (put_all h.1.done) none) ∙ h.1.so_far))
 
-pub looked_till : (whole left behind : Read (List ℕ)) (fault : FieldErr) → AreLooked whole left → IsTaken (Some (Err fault)) left behind → whole ≡ Err fault
+looked_till : (whole left behind : Read (List ℕ)) (fault : FieldErr) → AreLooked whole left → IsTaken (Some (Err fault)) left behind → whole ≡ Err fault
 looked_till whole left behind fault h is = sym h.1.so_far ∙ ap (put_all h.1.done) is
 
 -- a text that was looked over to its end is that of its characters

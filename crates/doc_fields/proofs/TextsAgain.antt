@@ -76,7 +76,7 @@ resolved_again cut at (c ∷ cs) e =
 
 -- ---- the escapes of bytes are those of characters
 
-pub one_byte : (c : ℕ) → c < 128 → encode_utf8 c ≡ c ∷ []
+one_byte : (c : ℕ) → c < 128 → encode_utf8 c ≡ c ∷ []
 unfolding encode
 one_byte c lt = let e : ltb c 128 ≡ true = grind (arith, nat_tests) in rw e refl
 

@@ -126,7 +126,7 @@ civil_is m c h =
     let second = h.second in
     grind (arith, nat_tests)
 
-pub civil_again : (m : Moment) → civil_in (time_text m) ≡ Some (civil_of m)
+civil_again : (m : Moment) → civil_in (time_text m) ≡ Some (civil_of m)
 civil_again m =
     let h = has_civil m in
     civil_in-shown (time_text m) h.0 true (time_text_civil m h.0 h.1) (civil-places m h.0 h.1) (civil_is m h.0 h.1) ∙ ap Some (sym (civil_of_only m h.0 h.1))
@@ -156,7 +156,7 @@ small_byte zero n i d lt = absurd (omega arith)
 small_byte (suc k) n zero d lt = byte_small k n
 small_byte (suc k) n (suc i) d lt = small_byte k n i d (omega arith)
 
-pub uuid_is : (uuid : ℕ) → uuid < 2 ^ 128 → uuid_in (uuid_text uuid) ≡ Some uuid
+uuid_is : (uuid : ℕ) → uuid < 2 ^ 128 → uuid_in (uuid_text uuid) ≡ Some uuid
 uuid_is uuid fits = uuid_in-written (uuid_text uuid) uuid (length-uuid uuid) fits (parses_hyphenated lower (to_be_bytes w128 uuid) (inl refl) refl (λ i d lt. small_byte 16 uuid i d lt))
 
 -- the text of a UUID is read again

@@ -36,7 +36,7 @@ node_of letters size at node = record {
   kind = kind_of letters size node.kind;
 }
 
-pub is_kind : (letters : Letters) (size : ℕ) (kind : told_kind.NodeKind)
+is_kind : (letters : Letters) (size : ℕ) (kind : told_kind.NodeKind)
     → IsKindOf letters size kind (kind_of letters size kind)
 is_kind letters size told_kinds.Dir = refl
 is_kind letters size (told_kinds.File bytes raws) =

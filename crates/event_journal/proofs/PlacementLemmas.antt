@@ -79,12 +79,12 @@ phase_fold who marks m = ap (λ (ks : List MarkKind). fold after idle ks) (kinds
     ∙ fold-append after idle (kinds_of who marks) (kinds_of who (m ∷ []))
 
 -- a session's mark takes it to its next phase
-pub phase_here : (who : ℕ) (marks : List Mark) (kind : MarkKind) → phase who (marks ++ mark who kind ∷ []) ≡ after (phase who marks) kind
+phase_here : (who : ℕ) (marks : List Mark) (kind : MarkKind) → phase who (marks ++ mark who kind ∷ []) ≡ after (phase who marks) kind
 phase_here who marks kind = phase_fold who marks (mark who kind)
     ∙ ap (λ (ks : List MarkKind). fold after (phase who marks) ks) (kinds_by who (mark who kind) true (eq-eqb who who refl))
 
 -- and leaves all others as they are
-pub phase_there : (who other : ℕ) (marks : List Mark) (kind : MarkKind) → other ≢ who
+phase_there : (who other : ℕ) (marks : List Mark) (kind : MarkKind) → other ≢ who
     → phase other (marks ++ mark who kind ∷ []) ≡ phase other marks
 phase_there who other marks kind apart = phase_fold other marks (mark who kind) ∙ by (who == other) refl
   where
@@ -94,11 +94,11 @@ phase_there who other marks kind apart = phase_fold other marks (mark who kind) 
 
 -- ---- busy sessions
 
-pub busy_most : (sessions who : ℕ) (marks : List Mark) (kind : MarkKind) → busy sessions (marks ++ mark who kind ∷ []) ≤ busy sessions marks + 1
+busy_most : (sessions who : ℕ) (marks : List Mark) (kind : MarkKind) → busy sessions (marks ++ mark who kind ∷ []) ≤ busy sessions marks + 1
 busy_most sessions who marks kind = count_most (λ k. is_busy (phase k marks)) (λ k. is_busy (phase k (marks ++ mark who kind ∷ []))) who sessions
     (λ k apart. ap is_busy (phase_there who k marks kind apart))
 
-pub busy_less : (sessions who : ℕ) (marks : List Mark) (kind : MarkKind) → 1 ≤ who → who ≤ sessions
+busy_less : (sessions who : ℕ) (marks : List Mark) (kind : MarkKind) → 1 ≤ who → who ≤ sessions
     → is_busy (phase who marks) ≡ true → is_busy (after (phase who marks) kind) ≡ false
     → busy sessions (marks ++ mark who kind ∷ []) + 1 ≡ busy sessions marks
 busy_less sessions who marks kind low high was is = count_less (λ k. is_busy (phase k marks))
@@ -124,7 +124,7 @@ there_stays old new (stored.Hands place) keeps is = (is.0, keeps place is.0 is.1
 there_stays old new stored.Begins keeps is = is
 there_stays old new stored.Rests keeps is = is
 
-pub shown_stays : (sessions : ℕ) (old new : List (Option Reply)) (marks : List Stored) → KeepsThere old new
+shown_stays : (sessions : ℕ) (old new : List (Option Reply)) (marks : List Stored) → KeepsThere old new
     → AllByRecursion (IsOfSession sessions old) marks → map (shown new) marks ≡ map (shown old) marks
 shown_stays sessions old new [] keeps all = refl
 shown_stays sessions old new (s ∷ marks) keeps all =
@@ -132,7 +132,7 @@ shown_stays sessions old new (s ∷ marks) keeps all =
     let rest : map (shown new) marks ≡ map (shown old) marks = shown_stays sessions old new marks keeps all.1 in
     rw (first, rest) refl
 
-pub right_stays : (sessions : ℕ) (old new : List (Option Reply)) (marks : List Stored) → KeepsThere old new
+right_stays : (sessions : ℕ) (old new : List (Option Reply)) (marks : List Stored) → KeepsThere old new
     → AllByRecursion (IsOfSession sessions old) marks → AllByRecursion (IsOfSession sessions new) marks
 right_stays sessions old new [] keeps all = tt
 right_stays sessions old new (s ∷ marks) keeps all = (
@@ -140,7 +140,7 @@ right_stays sessions old new (s ∷ marks) keeps all = (
   right_stays sessions old new marks keeps all.1,
 )
 
-pub right_more : (sessions : ℕ) (told : List (Option Reply)) (marks : List Stored) (s : Stored)
+right_more : (sessions : ℕ) (told : List (Option Reply)) (marks : List Stored) (s : Stored)
     → AllByRecursion (IsOfSession sessions told) marks → IsOfSession sessions told s
     → AllByRecursion (IsOfSession sessions told) (marks ++ s ∷ [])
 right_more sessions told [] s all one = (one, tt)
@@ -151,7 +151,7 @@ get_front [] ys k x e = cc
 get_front (z ∷ xs) ys zero x e = e
 get_front (z ∷ xs) ys (suc k) x e = get_front xs ys k x e
 
-pub keeps_more : (told : List (Option Reply)) (x : Option Reply) → KeepsThere told (told ++ x ∷ [])
+keeps_more : (told : List (Option Reply)) (x : Option Reply) → KeepsThere told (told ++ x ∷ [])
 keeps_more told x place reply is = get_front told (x ∷ []) place (Some reply) is
 
 get_other : {X : Type 0} (xs : List X) (at k : ℕ) (x : X) → k ≢ at → slice_get (slice_set xs at x) k ≡ slice_get xs k
@@ -162,11 +162,11 @@ get_other (z ∷ xs) (suc at) zero x apart = refl
 get_other (z ∷ xs) (suc at) (suc k) x apart = get_other xs at k x (λ e. apart (ap suc e))
 
 -- a reply that wasn't there takes none away
-pub keeps_set : (told : List (Option Reply)) (at : ℕ) (x : Option Reply) → slice_get told at ≡ Some None → KeepsThere told (slice_set told at x)
+keeps_set : (told : List (Option Reply)) (at : ℕ) (x : Option Reply) → slice_get told at ≡ Some None → KeepsThere told (slice_set told at x)
 keeps_set told at x none place reply is =
     get_other told at place x (λ e. let no : Some (Some reply) ≡ Some None = sym is ∙ ap (slice_get told) e ∙ none in cc) ∙ is
 
-pub set_length : {X : Type 0} (xs : List X) (at : ℕ) (x : X) → length (slice_set xs at x) ≡ length xs
+set_length : {X : Type 0} (xs : List X) (at : ℕ) (x : X) → length (slice_set xs at x) ≡ length xs
 set_length [] at x = refl
 set_length (z ∷ xs) zero x = refl
 set_length (z ∷ xs) (suc at) x = ap suc (set_length xs at x)
@@ -174,7 +174,7 @@ set_length (z ∷ xs) (suc at) x = ap suc (set_length xs at x)
 -- ---- what is kept
 
 -- a mark more, of a session that drains or waits no more
-pub listed_less : (history : List Placed) (told : List (Option Reply)) (marks : List Stored) (calls sessions h r room left : ℕ) (s : Stored)
+listed_less : (history : List Placed) (told : List (Option Reply)) (marks : List Stored) (calls sessions h r room left : ℕ) (s : Stored)
     → IsListed history told marks calls sessions h r room → IsOfSession sessions told s
     → is_busy (phase s.who (map (shown told) marks)) ≡ true
     → is_busy (after (phase s.who (map (shown told) marks)) (kind_of told s.what)) ≡ false → room ≤ left + 1
@@ -193,7 +193,7 @@ listed_less history told marks calls sessions h r room left s is one was then en
 }
 
 -- a mark more, of any session
-pub listed_more : (history : List Placed) (told : List (Option Reply)) (marks : List Stored) (calls sessions h r room left : ℕ) (s : Stored)
+listed_more : (history : List Placed) (told : List (Option Reply)) (marks : List Stored) (calls sessions h r room left : ℕ) (s : Stored)
     → IsListed history told marks calls sessions h r room → IsOfSession sessions told s
     → 2 + owed calls sessions (length history) (map (shown told) marks) ≤ room → room ≤ left + 1
     → IsListed history told (marks ++ s ∷ []) calls sessions h r left
@@ -211,7 +211,7 @@ listed_more history told marks calls sessions h r room left s is one has enough 
 }
 
 -- a placement more, with its mark
-pub listed_placed : (history : List Placed) (told : List (Option Reply)) (marks : List Stored)
+listed_placed : (history : List Placed) (told : List (Option Reply)) (marks : List Stored)
     (calls sessions h r more_h more_r room left : ℕ) (placed : Placed)
     → IsListed history told marks calls sessions h r room → length history < calls → 1 ≤ placed.who → placed.who ≤ sessions
     → h ≤ more_h → r ≤ more_r → room ≤ left + 1

@@ -114,7 +114,7 @@ has_last p y (d ∷ places) = ap (λ t. same_place p d || t) (has_last p y place
     by true = refl
     by false = refl
 
-pub none_met : (met : BTreeSet (Bool × ℕ)) → met.keys ≡ [] → AreMet met []
+none_met : (met : BTreeSet (Bool × ℕ)) → met.keys ≡ [] → AreMet met []
 none_met met none p = ap (list_any (is_at (key_cmp (key_of p)))) none
 
 -- a place that was put in is among those that were met

@@ -15,10 +15,10 @@ not_zero n h = grind (arith, nat_tests)
 zero_is : (n : ℕ) → n ≡ 0 → eqb n 0 ≡ true
 zero_is n h = grind (arith, nat_tests)
 
-pub unless_some : (e : Extent) → 1 ≤ e.count → unless_empty e ≡ e ∷ []
+unless_some : (e : Extent) → 1 ≤ e.count → unless_empty e ≡ e ∷ []
 unless_some e h = ap (λ b. cond b [] (e ∷ [])) (not_zero e.count h)
 
-pub unless_none : (e : Extent) → e.count ≡ 0 → unless_empty e ≡ []
+unless_none : (e : Extent) → e.count ≡ 0 → unless_empty e ≡ []
 unless_none e h = ap (λ b. cond b [] (e ∷ [])) (zero_is e.count h)
 
 abbrev made : ℕ → Part → ℕ → ℕ → ℕ → Extent
@@ -83,7 +83,7 @@ pub laid_raise : (size low high more : ℕ) (es : List Extent) → high ≤ more
 laid_raise size low high more [] le h = omega (arith, h)
 laid_raise size low high more (e ∷ es) le h = (h.0, h.1, h.2, h.3, laid_raise size (e.offset + e.count) high more es le h.4)
 
-pub laid_append : (size low mid high : ℕ) (xs ys : List Extent) → AreLaid size low mid xs → AreLaid size mid high ys → AreLaid size low high (xs ++ ys)
+laid_append : (size low mid high : ℕ) (xs ys : List Extent) → AreLaid size low mid xs → AreLaid size mid high ys → AreLaid size low high (xs ++ ys)
 laid_append size low mid high [] ys h k = laid_lower size low mid high ys h k
 laid_append size low mid high (e ∷ xs) ys h k = (h.0, h.1, h.2, h.3, laid_append size (e.offset + e.count) mid high xs ys h.4 k)
 

@@ -20,7 +20,7 @@ pub record IsAt (size low high : ℕ) (e : Extent) : Type 0 where
   pub far : e.block + e.count ≤ 2 ^ 62 + longest_file
   pub ends : e.offset + e.count ≤ high
 
-pub laid_at : (size low high : ℕ) (es : List Extent) → AreLaid size low high es → (k : ℕ) (d : Extent) → k < length es → IsAt size low high (get_or es k d)
+laid_at : (size low high : ℕ) (es : List Extent) → AreLaid size low high es → (k : ℕ) (d : Extent) → k < length es → IsAt size low high (get_or es k d)
 laid_at size low high [] h k d lt = absurd (omega arith)
 laid_at size low high (e ∷ es) h zero d lt = record { from = h.0; some = h.1; byte = h.2; far = h.3; ends = laid_le size (e.offset + e.count) high es h.4 }
 laid_at size low high (e ∷ es) h (suc k) d lt =
@@ -40,7 +40,7 @@ ends at e h = grind (arith, nat_tests)
 goes_on : (at : ℕ) (e : Extent) → leb e.count (at - e.offset) ≡ false → at - e.offset < e.count
 goes_on at e h = grind (arith, nat_tests)
 
-pub partitioned : (size low high : ℕ) (es : List Extent) → AreLaid size low high es → (at : ℕ) → IsPartitionedBy (λ (e : Extent). leb e.count (at - e.offset)) es
+partitioned : (size low high : ℕ) (es : List Extent) → AreLaid size low high es → (at : ℕ) → IsPartitionedBy (λ (e : Extent). leb e.count (at - e.offset)) es
 partitioned size low high [] h at i j d le lt does = absurd (omega arith)
 partitioned size low high (e ∷ es) h at zero zero d le lt does = does
 partitioned size low high (e ∷ es) h at zero (suc j) d le lt does =
@@ -53,7 +53,7 @@ next_place : (at : ℕ) (e : Extent) (es : List Extent) (k : ℕ) → IsPlace at
 next_place at e es k p = (λ j d l lt. p.0 (suc j) d (omega arith) (omega arith), λ j d l lt. p.1 (suc j) d (omega arith) (omega arith))
 
 -- what a cut leaves: the extents that end before it, and a part of the next
-pub cut_at : (size low high : ℕ) (es : List Extent) (at k : ℕ) → AreLaid size low high es → IsPlace at es k → cut at es ≡ take k es ++ flat_map (before at) (take 1 (drop k es))
+cut_at : (size low high : ℕ) (es : List Extent) (at k : ℕ) → AreLaid size low high es → IsPlace at es k → cut at es ≡ take k es ++ flat_map (before at) (take 1 (drop k es))
 cut_at size low high [] at zero h p = refl
 cut_at size low high [] at (suc k) h p = refl
 cut_at size low high (e ∷ es) at zero h p =
@@ -64,7 +64,7 @@ cut_at size low high (e ∷ es) at (suc k) h p =
     ap (λ l. l ++ cut at es) (before_whole at e h.1 (omega (arith, h.1))) ∙ ap (λ l. e ∷ l) (cut_at size (e.offset + e.count) high es at k h.4 (next_place at e es k p))
 
 -- what lies past it: the rest of that one, and those after it
-pub left_at : (size low high : ℕ) (es : List Extent) (at k : ℕ) → AreLaid size low high es → IsPlace at es k → left_from size at es ≡ flat_map (past size at) (take 1 (drop k es)) ++ drop 1 (drop k es)
+left_at : (size low high : ℕ) (es : List Extent) (at k : ℕ) → AreLaid size low high es → IsPlace at es k → left_from size at es ≡ flat_map (past size at) (take 1 (drop k es)) ++ drop 1 (drop k es)
 left_at size low high [] at zero h p = refl
 left_at size low high [] at (suc k) h p = refl
 left_at size low high (e ∷ es) at zero h p =
@@ -155,7 +155,7 @@ cut_list size low high es at k front after h p fronts is = is ∙ ap (λ l. take
 begins : (at : ℕ) (e : Extent) → e.offset < at → ltb e.offset at ≡ true
 begins at e h = grind (arith, nat_tests)
 
-pub partitioned_begun : (size low high : ℕ) (es : List Extent) → AreLaid size low high es → (at : ℕ) → IsPartitionedBy (λ (e : Extent). ltb e.offset at) es
+partitioned_begun : (size low high : ℕ) (es : List Extent) → AreLaid size low high es → (at : ℕ) → IsPartitionedBy (λ (e : Extent). ltb e.offset at) es
 partitioned_begun size low high [] h at i j d le lt does = absurd (omega arith)
 partitioned_begun size low high (e ∷ es) h at zero zero d le lt does = does
 partitioned_begun size low high (e ∷ es) h at zero (suc j) d le lt does =

@@ -53,7 +53,7 @@ joined (Some b ∷ xs) ys all bs x y = by (bytes_of xs) refl x (joined xs ys)
         let whole : b ∷ cs ≡ all = same_Some (b ∷ cs) all (sym (ap (option_map (λ bs. b ∷ bs)) e) ∙ f) in
         ap (option_map (λ bs. b ∷ bs)) (again cs bs e y) ∙ ap (λ l. Some (l ++ bs)) whole
 
-pub lost_front : (xs ys : List Cell) → bytes_of xs ≡ None → bytes_of (xs ++ ys) ≡ None
+lost_front : (xs ys : List Cell) → bytes_of xs ≡ None → bytes_of (xs ++ ys) ≡ None
 lost_front [] ys lost = cc
 lost_front (None ∷ xs) ys lost = refl
 lost_front (Some b ∷ xs) ys lost = by (bytes_of xs) refl lost (lost_front xs ys)
@@ -62,7 +62,7 @@ lost_front (Some b ∷ xs) ys lost = by (bytes_of xs) refl lost (lost_front xs y
     by None e f again = ap (option_map (λ bs. b ∷ bs)) (again e)
     by (Some cs) e f again = let wrong : ◌≡◌ {A = Option (List ℕ)} (Some (b ∷ cs)) None = sym (ap (option_map (λ bs. b ∷ bs)) e) ∙ f in cc
 
-pub lost_rest : (xs ys : List Cell) → bytes_of ys ≡ None → bytes_of (xs ++ ys) ≡ None
+lost_rest : (xs ys : List Cell) → bytes_of ys ≡ None → bytes_of (xs ++ ys) ≡ None
 lost_rest [] ys lost = lost
 lost_rest (None ∷ xs) ys lost = refl
 lost_rest (Some b ∷ xs) ys lost = ap (option_map (λ bs. b ∷ bs)) (lost_rest xs ys lost)
@@ -94,7 +94,7 @@ long_piece tape read (Stored place byte count) = by (read place)
 -- ---- one piece
 
 -- what the block gives of a piece at its place
-pub from_block : (tape : Tape) (place : Place) (block : List ℕ) → IsBlock tape place block → (byte count : ℕ) → read_piece tape (Stored place byte count) ≡ map (λ i. slice_get block (byte + i)) (range_with_len 0 count)
+from_block : (tape : Tape) (place : Place) (block : List ℕ) → IsBlock tape place block → (byte count : ℕ) → read_piece tape (Stored place byte count) ≡ map (λ i. slice_get block (byte + i)) (range_with_len 0 count)
 from_block tape place block is byte count = ranges_same (λ i. tape place.part place.pos (byte + i)) (λ i. slice_get block (byte + i)) 0 0 count (λ k lt. is (byte + (0 + k)))
 
 -- a piece at another place is as it was

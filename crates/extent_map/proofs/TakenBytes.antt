@@ -27,7 +27,7 @@ grown xs n len count long sum =
     ap (λ front. front ++ replicate (n - len) 0) (take_all n xs (omega (arith, sum))) ∙ ap (λ m. xs ++ replicate m 0) rest
 
 -- where one cell is lost there are no bytes
-pub one_lost : (cells : List Cell) (k : ℕ) → k < length cells → get_or cells k (Some 0) ≡ None → bytes_of cells ≡ None
+one_lost : (cells : List Cell) (k : ℕ) → k < length cells → get_or cells k (Some 0) ≡ None → bytes_of cells ≡ None
 one_lost [] k lt lost = absurd (omega (arith, lt))
 one_lost (None ∷ cells) k lt lost = refl
 one_lost (Some b ∷ cells) zero lt lost = absurd (let bad : Some b ≡ None = lost in cc)

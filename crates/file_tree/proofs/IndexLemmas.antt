@@ -99,7 +99,7 @@ sorted_on size from end (e ∷ es) done laid before =
     ∙ joined done (e ∷ []) es
 
 -- a file that is told and mounted again lies as it did
-pub told_lies : (letters : Letters) (size : ℕ) (laid : Laid) → letters.0 ≢ letters.1 → IsFileOf size laid → laid_of letters size laid.length (map (raw_of letters) laid.extents) ≡ laid
+told_lies : (letters : Letters) (size : ℕ) (laid : Laid) → letters.0 ≢ letters.1 → IsFileOf size laid → laid_of letters size laid.length (map (raw_of letters) laid.extents) ≡ laid
 told_lies letters size laid differ file =
     ap (λ es. record { block_size = size; length = laid.length; extents = by_offset (cut laid.length es) }) (extents_back letters laid.extents differ)
     ∙ ap (λ es. record { block_size = size; length = laid.length; extents = by_offset es }) (nothing_cut laid.block_size 0 laid.length laid.length laid.extents file.lies.are_laid (omega arith))

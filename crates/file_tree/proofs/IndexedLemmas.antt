@@ -123,7 +123,7 @@ dir_below spots m s n z is =
     held_within spots z.parent (there_held (held spots) m s z.parent (parent_of found.0, up))
 
 -- there is a trie for each directory
-pub dir_within : (spots : List (Option Spot)) (names : Tries) (free : List ℕ) (free_room : ℕ) → IsIndexed spots names free free_room
+dir_within : (spots : List (Option Spot)) (names : Tries) (free : List ℕ) (free_room : ℕ) → IsIndexed spots names free free_room
     → (m : Nodes) → IsShown (held spots) m → (dir : ℕ) → IsThere m dir → dir < length names.roots.items
 dir_within spots names free free_room i m s dir there = omega (arith, held_within spots dir (there_held (held spots) m s dir there), i.names_fit, i.dirs_fit)
 

@@ -41,7 +41,7 @@ use Rattle.file_tree.proofs.RawLemmas.{all_both}
 
 -- ---- the extents of a file that is told
 
-pub all_from : {X : Type 0} (P : X → Type 0) (xs : List X) → ((at : ℕ) (x : X) → IsAt xs at x → P x) → AllByRecursion P xs
+all_from : {X : Type 0} (P : X → Type 0) (xs : List X) → ((at : ℕ) (x : X) → IsAt xs at x → P x) → AllByRecursion P xs
 all_from P [] f = tt
 all_from P (x ∷ xs) f = (f 0 x refl, all_from P xs (λ at y is. f (suc at) y is))
 

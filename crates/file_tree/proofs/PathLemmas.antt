@@ -78,7 +78,7 @@ module _ {X : Type 0} where
   same_nodes m n same = fin.same_map path_total path_exact m n same
 
 -- an element of a list that passes a test
-pub passing : {X : Type 0} (t : X → Bool) (xs : List X) → list_any t xs ≡ true → (x : X) × (t x ≡ true)
+passing : {X : Type 0} (t : X → Bool) (xs : List X) → list_any t xs ≡ true → (x : X) × (t x ≡ true)
 passing t [] e = cc
 passing t (x ∷ xs) e = elim (t x) as (λ b. t x ≡ b → (b || list_any t xs) ≡ true → (x : _) × (t x ≡ true)) [
   | true ↦ λ is _. (x, is)

@@ -93,7 +93,7 @@ set_kept spots n o lt = record { here = here spots n lt; others = others spots n
     others (x ∷ spots) (suc n) zero apart = refl
     others (x ∷ spots) (suc n) (suc k) apart = others spots n k (λ e. apart (ap suc e))
 
-pub push_kept : (spots : List (Option Spot)) (n : ℕ) (o : Option Spot) → n ≡ length spots → IsKept (held spots) (held (spots ++ o ∷ [])) n o
+push_kept : (spots : List (Option Spot)) (n : ℕ) (o : Option Spot) → n ≡ length spots → IsKept (held spots) (held (spots ++ o ∷ [])) n o
 push_kept spots n o long = record { here = here spots n long; others = others spots n long }
   where
     here : (spots : List (Option Spot)) (n : ℕ) → n ≡ length spots → held (spots ++ o ∷ []) n ≡ o
@@ -126,7 +126,7 @@ used_more (Some z ∷ spots) zero b is lt = cc
 used_more (None ∷ spots) (suc n) b is lt = used_more spots n b is (omega arith)
 used_more (Some z ∷ spots) (suc n) b is lt = ap (λ k. k + 1) (used_more spots n b is (omega arith))
 
-pub used_less : (spots : List (Option Spot)) (n : ℕ) (a : Spot) → held spots n ≡ Some a → used (set spots n None) + 1 ≡ used spots
+used_less : (spots : List (Option Spot)) (n : ℕ) (a : Spot) → held spots n ≡ Some a → used (set spots n None) + 1 ≡ used spots
 used_less [] n a is = cc
 used_less (None ∷ spots) zero a is = cc
 used_less (Some z ∷ spots) zero a is = refl

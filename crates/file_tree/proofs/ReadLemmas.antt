@@ -71,7 +71,7 @@ file_check (plain_kinds.File c) = None
 file_check (plain_kinds.Link t) = Some refusals.IsLink
 
 -- the checks of a directory and of a file, where a node stands
-pub dir_of_kind : (tape : Tape) (m : Nodes) (path : List (List ℕ)) (node : Node) (k : plain_kind.Kind) → fin.get m path ≡ Some node → plain_kind_of tape node.kind ≡ k → no_dir (plain_nodes tape m) path ≡ dir_check k
+dir_of_kind : (tape : Tape) (m : Nodes) (path : List (List ℕ)) (node : Node) (k : plain_kind.Kind) → fin.get m path ≡ Some node → plain_kind_of tape node.kind ≡ k → no_dir (plain_nodes tape m) path ≡ dir_check k
 dir_of_kind tape m path node k is kind_is = opened (plain_nodes tape m) (plain_node_of tape node) k (plain_get tape m path ∙ ap (option_map (plain_node_of tape)) is) kind_is
   where
     opened : (m : plain.Nodes) (n : plain_node.Node) (k : plain_kind.Kind) → fin.get m path ≡ Some n → n.kind ≡ k → no_dir m path ≡ dir_check k

@@ -58,7 +58,7 @@ rename_refused nodes from to up name r good some is refused = rename_left nodes 
 -- ---- a look-up of a name
 
 -- whether something stands under a name
-pub stands_or_not : (t : FileTree) (path : Path) (o : Option ℕ) → number_at t.nodes path ≡ o → fin.contains_key (plain_nodes whole t.nodes) path ≡ is_some o
+stands_or_not : (t : FileTree) (path : Path) (o : Option ℕ) → number_at t.nodes path ≡ o → fin.contains_key (plain_nodes whole t.nodes) path ≡ is_some o
 stands_or_not t path o is = ap is_some (plain_get whole t.nodes path) ∙ by (fin.get t.nodes path) ∙ ap is_some is
   where
     by : (o : Option Node) → is_some (option_map (plain_node_of whole) o) ≡ is_some (option_map (λ (n : Node). n.number) o)

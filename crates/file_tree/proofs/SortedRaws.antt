@@ -67,7 +67,7 @@ pair_apart (r ∷ raws) all (suc i) (suc j) a b differ is also = pair_apart raws
 none_meet : (raws : List RawExtent) → AllApart raws → Meet raws → ⊥
 none_meet raws all m = ⊎_elim (λ ends. omega (arith, ends, m.high)) (λ begins. omega (arith, begins, m.low)) (pair_apart raws all m.one m.two m.a m.b m.differ m.is m.other_is m.a_some m.b_some)
 
-pub apart_at : (raws : List RawExtent) → (Meet raws → ⊥) → (i j : ℕ) (a b : RawExtent) → i ≢ j → IsAt raws i a → IsAt raws j b → AreApart a b
+apart_at : (raws : List RawExtent) → (Meet raws → ⊥) → (i j : ℕ) (a b : RawExtent) → i ≢ j → IsAt raws i a → IsAt raws j b → AreApart a b
 apart_at raws none i j a b differ is also a_some b_some = ⊎_elim
     (λ (high : b.offset < a.offset + a.count). ⊎_elim
     (λ (low : a.offset < b.offset + b.count). absurd (none (record { one = i; two = j; differ = differ; a = a; b = b; is = is; other_is = also; a_some = a_some; b_some = b_some; low = low; high = high })))

@@ -135,7 +135,7 @@ told_is letters volume name m places path n z up parent are there also above at 
 
 -- ---- the numbers of all entries
 
-pub numbers_at : (m : Nodes) (numbers : List ℕ) → numbers ≡ map (λ (e : Path × Node). e.1.number) (fin.entries m) → (place n : ℕ) → IsAt numbers place n → (p : Path) × (node : Node) × (slice_get (fin.entries m) place ≡ Some (p, node)) × (node.number ≡ n)
+numbers_at : (m : Nodes) (numbers : List ℕ) → numbers ≡ map (λ (e : Path × Node). e.1.number) (fin.entries m) → (place n : ℕ) → IsAt numbers place n → (p : Path) × (node : Node) × (slice_get (fin.entries m) place ≡ Some (p, node)) × (node.number ≡ n)
 numbers_at m numbers is place n at = by (slice_get (fin.entries m) place) refl
   where
     by : (o : Option (Path × Node)) → slice_get (fin.entries m) place ≡ o → (p : Path) × (node : Node) × (slice_get (fin.entries m) place ≡ Some (p, node)) × (node.number ≡ n)

@@ -20,13 +20,13 @@ pub name_Decides : (x y : List ℕ) → Decides (pointwise nat_eq x y) (x ≡ y)
 name_Decides x y = slice_eq-Decides unsigned_Decides x y _ refl
 
 -- the test of a child, and what it says
-pub child_says : (dir : ℕ) (name : List ℕ) (z : Spot) → is_child dir name (Some z) ≡ true → (z.node.number ≢ 0) × (z.parent ≡ dir) × (z.name ≡ name)
+child_says : (dir : ℕ) (name : List ℕ) (z : Spot) → is_child dir name (Some z) ≡ true → (z.node.number ≢ 0) × (z.parent ≡ dir) × (z.name ≡ name)
 child_says dir name z is =
     let a = both_true (not (eqb z.node.number 0) && eqb z.parent dir) (pointwise nat_eq z.name name) is in
     let b = both_true (not (eqb z.node.number 0)) (eqb z.parent dir) a.0 in
     (λ zero_is. let wrong : false ≡ true = sym (ap not (eq-eqb z.node.number 0 zero_is)) ∙ b.0 in cc, eqb-true z.parent dir b.1, (name_Decides z.name name).0 a.1)
 
-pub says_child : (dir : ℕ) (name : List ℕ) (z : Spot) → z.node.number ≢ 0 → z.parent ≡ dir → z.name ≡ name → is_child dir name (Some z) ≡ true
+says_child : (dir : ℕ) (name : List ℕ) (z : Spot) → z.node.number ≢ 0 → z.parent ≡ dir → z.name ≡ name → is_child dir name (Some z) ≡ true
 says_child dir name z some parent named =
     ap (λ b. not b && eqb z.parent dir && pointwise nat_eq z.name name) (ne_eqb z.node.number 0 some)
     ∙ ap (λ b. b && pointwise nat_eq z.name name) (eq-eqb z.parent dir parent) ∙ (name_Decides z.name name).1 named
@@ -35,7 +35,7 @@ held_at : (spots : List (Option Spot)) (n : ℕ) (z : Spot) → slice_get spots 
 held_at spots n z is = rw is refl
 
 -- the first child is kept at some number, and where there is none, none is kept
-pub child_held : (spots : List (Option Spot)) (dir : ℕ) (name : List ℕ) (z : Spot) → child spots dir name ≡ Some z → (is_child dir name (Some z) ≡ true) × ((n : ℕ) × (held spots n ≡ Some z))
+child_held : (spots : List (Option Spot)) (dir : ℕ) (name : List ℕ) (z : Spot) → child spots dir name ≡ Some z → (is_child dir name (Some z) ≡ true) × ((n : ℕ) × (held spots n ≡ Some z))
 child_held [] dir name z is = cc
 child_held (o ∷ spots) dir name z is = by (is_child dir name o) refl (child_held spots dir name z)
   where
@@ -45,7 +45,7 @@ child_held (o ∷ spots) dir name z is = by (is_child dir name o) refl (child_he
         (ap (is_child dir name) (sym same) ∙ e, (0, same))
     by false e later = let more = later (sym (ap (λ b. cond b o (child spots dir name)) e) ∙ is) in (more.0, (suc more.1.0, more.1.1))
 
-pub no_child : (spots : List (Option Spot)) (dir : ℕ) (name : List ℕ) (n : ℕ) (z : Spot) → child spots dir name ≡ None → held spots n ≡ Some z → is_child dir name (Some z) ≡ true → ⊥
+no_child : (spots : List (Option Spot)) (dir : ℕ) (name : List ℕ) (n : ℕ) (z : Spot) → child spots dir name ≡ None → held spots n ≡ Some z → is_child dir name (Some z) ≡ true → ⊥
 no_child [] dir name n z none is this = cc
 no_child (o ∷ spots) dir name zero z none is this =
     let same : o ≡ Some z = is in

@@ -159,7 +159,7 @@ label_fits part spec none = record {
   block = (fine spec none).block;
 }
 
-pub label_size : (part : Part) (spec : FormatSpec) → spec_fault spec ≡ None
+label_size : (part : Part) (spec : FormatSpec) → spec_fault spec ≡ None
     → (1 ≤ length (canonical (label_of (label_on part spec)))) × (length (canonical (label_of (label_on part spec))) ≤ 1048576)
 label_size part spec none =
     let range = within 4096 1048576 spec.block (fine spec none).block in

@@ -38,7 +38,7 @@ rest_then part c d e first second = record {
   note_dp = second.note_dp ∙ first.note_dp;
 }
 
-pub appended_then : (part : Part) (pos : ℕ) (xs ys : List Item) (c d e : Cartridge)
+appended_then : (part : Part) (pos : ℕ) (xs ys : List Item) (c d e : Cartridge)
     → IsAppended part pos xs c d → IsAppended part (pos + length xs) ys d e → IsAppended part pos (xs ++ ys) c e
 appended_then part pos xs ys c d e first second = record {
   items = second.items

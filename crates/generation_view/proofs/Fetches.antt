@@ -106,13 +106,13 @@ module _ {D : Type 0} (drive : Ghosts D) where
       (times_more (length (take i places)) (length places) drive.MOST (omega (arith, taken_long places i (omega (arith, lt)), lt)))
       (then_looks drive (2 * length (take i places) * drive.MOST) (2 * drive.MOST) a b e first.looks second)
 
-pub rose_since : (a b e : ℕ) → a ≤ b → Rose b e → Rose a e
+rose_since : (a b e : ℕ) → a ≤ b → Rose b e → Rose a e
 rose_since a b e le rose = omega (arith, le, rose)
 
 -- ---- all of them
 
 -- a place of the list is one of those that were read
-pub all_read : (places : List Place) (read : Places) (place : Place) → (read place ≡ true) ⊎ (has_place place places ≡ true) → with_places read places place ≡ true
+all_read : (places : List Place) (read : Places) (place : Place) → (read place ≡ true) ⊎ (has_place place places ≡ true) → with_places read places place ≡ true
 all_read [] read place (inl is) = is
 all_read [] read place (inr none) = absurd (cc none)
 all_read (p ∷ places) read place is = all_read places (with_place read p) place (by (same_place p place) refl is)

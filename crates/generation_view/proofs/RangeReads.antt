@@ -181,7 +181,7 @@ pub file_read : (t : FileTree) (path : Path) (offset count number : ℕ) → ref
 file_read t path offset count number free stands = file_there t path number stands (sym (whole_read t path offset count) ∙ free)
 
 -- a read of what is no file is refused, whatever stands on tape
-pub refused_whole : (t : FileTree) (path : Path) (offset count : ℕ) (r : Refusal) → refusal_of (plain_of whole t) (asks.Read path offset count) ≡ Some r
+refused_whole : (t : FileTree) (path : Path) (offset count : ℕ) (r : Refusal) → refusal_of (plain_of whole t) (asks.Read path offset count) ≡ Some r
     → (tape : Tape) → answer (plain_of tape t) (asks.Read path offset count) ≡ answers.Refused r
 refused_whole t path offset count r is tape =
     ap (λ o. answer_unless o (value_of (plain_of tape t) (asks.Read path offset count)))

@@ -85,7 +85,7 @@ module _ (label : Label) (ip dp : ℕ) (differ : label.index ≢ label.dpart) wh
       (λ at bytes raws file. raws_below raws (subst (FitsKind label ip dp) file.file (node_fits index.nodes at file.node fits file.is))) is
 
 -- a tree before some ends lies before ends that are no earlier
-pub below_more : (one other : Ends) (t : FileTree) → ((part : Part) → one part ≤ other part) → LiesBelow one t → LiesBelow other t
+below_more : (one other : Ends) (t : FileTree) → ((part : Part) → one part ≤ other part) → LiesBelow one t → LiesBelow other t
 below_more one other t le below part pos stands = omega (arith, le part, below part pos stands)
 
 -- ---- the index at the end of the way can be made a tree

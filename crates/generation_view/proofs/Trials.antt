@@ -109,7 +109,7 @@ module _ (r : Reads newest middle oldest) where
 
 -- ---- where it breaks
 
-pub at_newest : (found : Found three) → found.labels.ip ≡ label → (why : BreakWhy) → Breaks label three third_index two None why
+at_newest : (found : Found three) → found.labels.ip ≡ label → (why : BreakWhy) → Breaks label three third_index two None why
     → IsBrokenBehind three found [] 12 why
 at_newest found is why b = record {
   links_are = tt;
@@ -120,7 +120,7 @@ at_newest found is why b = record {
   fails = subst (λ (l : Label). Breaks l three third_index two None why) (sym is) b;
 }
 
-pub at_second : (second first : Index) (r : Reads newest second first) (why : BreakWhy)
+at_second : (second first : Index) (r : Reads newest second first) (why : BreakWhy)
     → Breaks label three second_index (first_index ∷ []) (Some 4) why → IsBrokenBehind three r.found (newest ∷ []) 9 why
 at_second second first r why b = record {
   links_are = for_label newest second first r (λ (l : Label). AreLinks l three None all_three (newest ∷ [])) (newest_links second first r, tt);

@@ -29,7 +29,7 @@ groups_begin m = record { due = λ is. refl; changed = λ is. refl }
 abbrev pub with_group : State → List Place → State
 with_group st places = record st { group = st.group ++ places }
 
-pub queued_is : (places : List Place) (st : State) → queued places st ≡ with_group st places
+queued_is : (places : List Place) (st : State) → queued places st ≡ with_group st places
 queued_is [] st = ap (λ g. record st { group = g }) (sym (append-nil st.group))
 queued_is (p ∷ ps) st = queued_is ps (with_group st (p ∷ [])) ∙ ap (λ g. record st { group = g }) (append_assoc st.group (p ∷ []) ps)
 

@@ -18,7 +18,7 @@ use Rattle.head_core.specs.Steps.{CanDo, IsInReach, IsOpStep, IsReadStep}
 use Rattle.head_core.proofs.Fronts.{ops_keep}
 
 -- a cartridge whose front of a place is that of another one reaches as far
-pub as_far : (at : Place) (c d : Cartridge) → IsWithin at c → front_of at d ≡ front_of at c → IsWithin at d
+as_far : (at : Place) (c d : Cartridge) → IsWithin at c → front_of at d ≡ front_of at c → IsWithin at d
 as_far at c d within same =
     let long : length (front_of at d) ≡ at.pos =
     ap (λ (l : List Item). length l) same ∙ length-take-le at.pos (items_of at.part c) within in
@@ -26,7 +26,7 @@ as_far at c d within same =
 
 -- an op that a layout gives, of a volume whose blocks have at most 1,048,576 bytes, can be done where its place is at most
 -- behind the last item
-pub can_do : (o : Op) (size : ℕ) (limits : Limits) (held : Option Cartridge) → HasRoom limits size o → size ≤ 1048576
+can_do : (o : Op) (size : ℕ) (limits : Limits) (held : Option Cartridge) → HasRoom limits size o → size ≤ 1048576
     → IfSome held (λ c. IsWithin (place_of o) c) → CanDo o limits held
 can_do (op.Put at bytes) size limits held room small within =
     (record { room = room.0; within = within }, room.1, omega (arith, room.2, small))

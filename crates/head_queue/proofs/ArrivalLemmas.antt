@@ -41,7 +41,7 @@ all_put P w (v ∷ vs) h = by (all_put P w vs) (nat_le w.arrival v.arrival) h
     by on true g = record { one = g.0; rest = g.1 }
     by on false g = more g.0 (on g.1)
 
-pub all_sorted : (P : Waiting → Type 0) (ws : List Waiting) → AllByRecursion P (by_arrival ws) → AllByRecursion P ws
+all_sorted : (P : Waiting → Type 0) (ws : List Waiting) → AllByRecursion P (by_arrival ws) → AllByRecursion P ws
 all_sorted P [] h = tt
 all_sorted P (w ∷ ws) h = let b = all_put P w (by_arrival ws) h in (b.one, all_sorted P ws b.rest)
 
@@ -58,7 +58,7 @@ pub sorted_length : (ws : List Waiting) → length (by_arrival ws) ≡ length ws
 sorted_length [] = refl
 sorted_length (w ∷ ws) = put_length w (by_arrival ws) ∙ ap (λ (n : ℕ). suc n) (sorted_length ws)
 
-pub empty_sorted : (ws : List Waiting) → by_arrival ws ≡ [] → ws ≡ []
+empty_sorted : (ws : List Waiting) → by_arrival ws ≡ [] → ws ≡ []
 empty_sorted [] h = refl
 empty_sorted (w ∷ ws) h = let e : suc (length ws) ≡ 0 = sym (sorted_length (w ∷ ws)) ∙ ap length h in absurd (omega arith)
 
@@ -260,7 +260,7 @@ sorted_less ws n d g h =
 
 -- ---- a number that one has
 
-pub has_either : (n : ℕ) (ws : List Waiting) → (AllByRecursion (λ w. w.node ≢ n) ws → ⊥) → HasNode ws n
+has_either : (n : ℕ) (ws : List Waiting) → (AllByRecursion (λ w. w.node ≢ n) ws → ⊥) → HasNode ws n
 has_either n [] h = absurd (h tt)
 has_either n (w ∷ ws) h = elim (nat_eq w.node n) as (λ t. nat_eq w.node n ≡ t → HasNode (w ∷ ws) n) [
   | true ↦ λ e. record { front = []; here = w; behind = ws; parts = refl; node = eqb-true w.node n e }

@@ -77,7 +77,7 @@ pos_upto : (x p a pos : ℕ) → a < 2 ^ 64 → (x * 2 ^ 64 + pos) * 2 ^ 64 + 0 
 pos_upto x p a pos ha le = omega arith
 
 -- of the partition, and before a position
-pub below_pos : (part : Part) (pos : ℕ) (v : Waiting) → v.place.part ≡ part → rank v < rank_of (record { part = part; pos = pos }) 0 → v.place.pos < pos
+below_pos : (part : Part) (pos : ℕ) (v : Waiting) → v.place.part ≡ part → rank v < rank_of (record { part = part; pos = pos }) 0 → v.place.pos < pos
 below_pos part pos v e lt = pos_below (part_number part) v.place.pos v.arrival pos (subst (λ (x : ℕ). (x * 2 ^ 64 + v.place.pos) * 2 ^ 64 + v.arrival < (part_number part * 2 ^ 64 + pos) * 2 ^ 64 + 0) (ap part_number e) lt)
 
 from_pos : (part : Part) (pos : ℕ) (v : Waiting) → IsFit v → v.place.part ≡ part → rank_of (record { part = part; pos = pos }) 0 ≤ rank v → pos ≤ v.place.pos
@@ -142,7 +142,7 @@ ahead ws part pos w ordered first ew =
     sides pos p q le (inr h) = ap (λ (n : ℕ). nat_lt n pos) h.0
 
 -- where none is ahead, the lowest comes first
-pub round : (ws : List Waiting) (part : Part) (pos : ℕ) (w : Waiting) → AreOrdered ws → IsFirst ws (rank_of (record { part = part; pos = 0 }) 0) w → w.place.part ≡ part
+round : (ws : List Waiting) (part : Part) (pos : ℕ) (w : Waiting) → AreOrdered ws → IsFirst ws (rank_of (record { part = part; pos = 0 }) 0) w → w.place.part ≡ part
     → AllByRecursion (λ v. v.place.part ≡ part → rank v < rank_of (record { part = part; pos = pos }) 0) ws
     → AllByRecursion (λ v. v.place.part ≡ part → comes_first pos w v ≡ true) ws
 round ws part pos w ordered first ew behind =
@@ -166,7 +166,7 @@ round ws part pos w ordered first ew behind =
     lows : (pos p q : ℕ) → p < pos → q < pos → nat_lt p pos ≡ nat_lt q pos
     lows pos p q l m = grind (arith, nat_tests)
 
-pub none_of : (ws : List Waiting) (part : Part) → AllByRecursion (λ v. v.place.part ≡ part → rank v < rank_of (record { part = part; pos = 0 }) 0) ws → AllByRecursion (λ v. v.place.part ≢ part) ws
+none_of : (ws : List Waiting) (part : Part) → AllByRecursion (λ v. v.place.part ≡ part → rank v < rank_of (record { part = part; pos = 0 }) 0) ws → AllByRecursion (λ v. v.place.part ≢ part) ws
 none_of ws part h = weak (λ v. v.place.part ≡ part → rank v < rank_of (record { part = part; pos = 0 }) 0) (λ v. v.place.part ≢ part)
     (λ v g e. let none : v.place.pos < 0 = below_pos part 0 v e (g e) in omega arith) ws h
 
@@ -185,7 +185,7 @@ part_first ws head w ew h = weak (λ v. v.place.part ≡ head.part → comes_fir
     by xs ys Dp Dp Ip e g = lesser 0 1 xs ys (omega arith)
     by xs ys Dp Dp Dp e g = alike 0 0 xs ys refl (g refl)
 
-pub part_second : (ws : List Waiting) (head : Place) (w : Waiting) → w.place.part ≡ other head.part → AllByRecursion (λ v. v.place.part ≢ head.part) ws
+part_second : (ws : List Waiting) (head : Place) (w : Waiting) → w.place.part ≡ other head.part → AllByRecursion (λ v. v.place.part ≢ head.part) ws
     → AllByRecursion (λ v. v.place.part ≡ other head.part → comes_first head.pos w v ≡ true) ws → AllByRecursion (λ v. stands_in head w v ≡ true) ws
 part_second ws head w ew none h = zip (λ v. v.place.part ≢ head.part) (λ v. v.place.part ≡ other head.part → comes_first head.pos w v ≡ true) (λ v. stands_in head w v ≡ true)
     (λ v n g. by (key_within head.pos w.place.pos (w.arrival + 1)) (key_within head.pos v.place.pos (v.arrival + 1)) head.part w.place.part v.place.part ew n g) ws none h
@@ -198,7 +198,7 @@ part_second ws head w ew none h = zip (λ v. v.place.part ≢ head.part) (λ v. 
     by xs ys Dp Ip Dp e n g = absurd (n refl)
     by xs ys Dp Dp q e n g = cc
 
-pub no_part : (ws : List Waiting) (part : Part) → AllByRecursion (λ v. v.place.part ≢ part) ws → AllByRecursion (λ v. v.place.part ≢ other part) ws → ws ≡ []
+no_part : (ws : List Waiting) (part : Part) → AllByRecursion (λ v. v.place.part ≢ part) ws → AllByRecursion (λ v. v.place.part ≢ other part) ws → ws ≡ []
 no_part [] part h g = refl
 no_part (w ∷ ws) part h g = absurd (by part w.place.part h.0 g.0)
   where

@@ -18,7 +18,7 @@ use Rattle.head_queue.proofs.NewestLemmas.{one, other, turned}
 abbrev pub pairs_of : List ℕ → List ℕ → List Owned
 pairs_of os ms = map (owned_at os) ms
 
-pub pairs_both : (os xs ys : List ℕ) → pairs_of os (xs ++ ys) ≡ pairs_of os xs ++ pairs_of os ys
+pairs_both : (os xs ys : List ℕ) → pairs_of os (xs ++ ys) ≡ pairs_of os xs ++ pairs_of os ys
 pairs_both os [] ys = refl
 pairs_both os (x ∷ xs) ys = ap (λ (ps : List Owned). owned_at os x ∷ ps) (pairs_both os xs ys)
 
@@ -28,7 +28,7 @@ pairs_both os (x ∷ xs) ys = ap (λ (ps : List Owned). owned_at os x ∷ ps) (p
 pub some_not : (k : ℕ) → Some k ≡ None → ⊥
 some_not k e = cc
 
-pub miss_none : (os : List ℕ) (n : ℕ) (ms : List ℕ) → Misses n ms → owner_of n (pairs_of os ms) ≡ None
+miss_none : (os : List ℕ) (n : ℕ) (ms : List ℕ) → Misses n ms → owner_of n (pairs_of os ms) ≡ None
 miss_none os n [] h = refl
 miss_none os n (k ∷ ms) h = other (Some (owner_at os k)) (owner_of n (pairs_of os ms)) n k h.0 ∙ miss_none os n ms h.1
 
@@ -103,7 +103,7 @@ or_none : (a : Option ℕ) → or_else a None ≡ a
 or_none None = refl
 or_none (Some k) = refl
 
-pub last_both : (o : ℕ) (xs ys : List Owned) → last_held o (xs ++ ys) ≡ or_else (last_held o ys) (last_held o xs)
+last_both : (o : ℕ) (xs ys : List Owned) → last_held o (xs ++ ys) ≡ or_else (last_held o ys) (last_held o xs)
 last_both o [] ys = sym (or_none (last_held o ys))
 last_both o (x ∷ xs) ys =
     ap (λ (q : Option ℕ). or_else q (cond (nat_eq o x.owner) (Some x.node) None)) (last_both o xs ys)
@@ -113,13 +113,13 @@ or_nones : (a b : Option ℕ) → or_else a b ≡ None → (a ≡ None) × (b �
 or_nones None b h = (refl, h)
 or_nones (Some k) b h = absurd (some_not k h)
 
-pub none_lacks : (o : ℕ) (xs : List Owned) → last_held o xs ≡ None → Lacks o xs
+none_lacks : (o : ℕ) (xs : List Owned) → last_held o xs ≡ None → Lacks o xs
 none_lacks o [] h = tt
 none_lacks o (x ∷ xs) h =
     let g = or_nones (last_held o xs) (cond (nat_eq o x.owner) (Some x.node) None) h in
     ((λ e. some_not x.node (sym (one (Some x.node) None o x.owner e) ∙ g.1)), none_lacks o xs g.0)
 
-pub lacks_none : (o : ℕ) (xs : List Owned) → Lacks o xs → last_held o xs ≡ None
+lacks_none : (o : ℕ) (xs : List Owned) → Lacks o xs → last_held o xs ≡ None
 lacks_none o [] h = refl
 lacks_none o (x ∷ xs) h = ap (λ (q : Option ℕ). or_else q (cond (nat_eq o x.owner) (Some x.node) None)) (lacks_none o xs h.1) ∙ other (Some x.node) None o x.owner h.0
 
@@ -129,7 +129,7 @@ pub record IsLast (os ms : List ℕ) (o k : ℕ) : Type 0 where
   pub owner : owner_at os k ≡ o
   pub lacks : Lacks o (pairs_of os member.behind)
 
-pub last_at : (os : List ℕ) (o k : ℕ) (ms : List ℕ) → last_held o (pairs_of os ms) ≡ Some k → IsLast os ms o k
+last_at : (os : List ℕ) (o k : ℕ) (ms : List ℕ) → last_held o (pairs_of os ms) ≡ Some k → IsLast os ms o k
 last_at os o k [] h = let e : None ≡ Some k = h in absurd (some_not k (sym e))
 last_at os o k (m ∷ ms) h = by (λ e. last_at os o k ms e) (last_held o (pairs_of os ms)) refl h
   where
@@ -156,7 +156,7 @@ last_at os o k (m ∷ ms) h = by (λ e. last_at os o k ms e) (last_held o (pairs
     by on (Some j) is e = more (on (is ∙ e))
 
 -- it is one of the numbers
-pub last_in : (os : List ℕ) (o n : ℕ) (ms : List ℕ) → Misses n ms → last_held o (pairs_of os ms) ≡ Some n → ⊥
+last_in : (os : List ℕ) (o n : ℕ) (ms : List ℕ) → Misses n ms → last_held o (pairs_of os ms) ≡ Some n → ⊥
 last_in os o n ms m h = by (last_at os o n ms h)
   where
     by : IsLast os ms o n → ⊥
@@ -241,7 +241,7 @@ room_for os ms size newest o kept = by (lookup o newest) refl
 abbrev pub Reowned : List ℕ → List ℕ → ℕ → ℕ → Type 0
 Reowned os us n o = (k : ℕ) → owner_at us k ≡ cond (nat_eq k n) o (owner_at os k)
 
-pub same_pairs : (os us : List ℕ) (n o : ℕ) → Reowned os us n o → (ms : List ℕ) → Misses n ms → pairs_of us ms ≡ pairs_of os ms
+same_pairs : (os us : List ℕ) (n o : ℕ) → Reowned os us n o → (ms : List ℕ) → Misses n ms → pairs_of us ms ≡ pairs_of os ms
 same_pairs os us n o h [] m = refl
 same_pairs os us n o h (k ∷ ms) m =
     ap (λ (v : ℕ). record { owner = v; node = k } ∷ pairs_of us ms) (h k ∙ kept k m.0)
@@ -253,7 +253,7 @@ same_pairs os us n o h (k ∷ ms) m =
       | false ↦ λ e. refl
     ] refl
 
-pub pairs_more : (os us : List ℕ) (n o at : ℕ) (ms : List ℕ) → Reowned os us n o → Misses n ms → (c : IsCut ms at)
+pairs_more : (os us : List ℕ) (n o at : ℕ) (ms : List ℕ) → Reowned os us n o → Misses n ms → (c : IsCut ms at)
     → pairs_of us (c.front ++ n ∷ c.behind) ≡ pairs_of os c.front ++ record { owner = o; node = n } ∷ pairs_of os c.behind
 pairs_more os us n o at ms h m c =
     let misses : Misses n (c.front ++ c.behind) = subst (Misses n) c.parts m in
@@ -405,7 +405,7 @@ grouped_taken os n o ms size newest now kept w ascending told =
 
 -- ---- what the calls answer
 
-pub newest_owner : (os ms : List ℕ) (size : ℕ) (newest : List Owned) (o k : ℕ) → AreGrouped os ms size newest → lookup o newest ≡ Some k → owner_of k (pairs_of os ms) ≡ Some o
+newest_owner : (os ms : List ℕ) (size : ℕ) (newest : List Owned) (o k : ℕ) → AreGrouped os ms size newest → lookup o newest ≡ Some k → owner_of k (pairs_of os ms) ≡ Some o
 newest_owner os ms size newest o k kept is = by (last_at os o k ms (sym (kept.told o) ∙ is))
   where
     by : IsLast os ms o k → owner_of k (pairs_of os ms) ≡ Some o

@@ -52,7 +52,7 @@ w_map P f (k ∷ ks) h = (h.0, w_map P f ks h.1)
 
 -- ---- orders
 
-pub rising_front : (xs ys : List Waiting) → Rising (xs ++ ys) → Rising xs
+rising_front : (xs ys : List Waiting) → Rising (xs ++ ys) → Rising xs
 rising_front [] ys h = tt
 rising_front (x ∷ xs) ys h = (w_front (λ v. rank x < rank v) xs ys h.0, rising_front xs ys h.1)
 
@@ -61,12 +61,12 @@ pub rising_behind : (xs ys : List Waiting) → Rising (xs ++ ys) → Rising ys
 rising_behind [] ys h = h
 rising_behind (x ∷ xs) ys h = rising_behind xs ys h.1
 
-pub rising_less : (xs ys : List Waiting) (w : Waiting) → Rising (xs ++ w ∷ ys) → Rising (xs ++ ys)
+rising_less : (xs ys : List Waiting) (w : Waiting) → Rising (xs ++ w ∷ ys) → Rising (xs ++ ys)
 rising_less [] ys w h = h.1
 rising_less (x ∷ xs) ys w h =
     (w_both (λ v. rank x < rank v) xs ys (w_front (λ v. rank x < rank v) xs (w ∷ ys) h.0) (w_behind (λ v. rank x < rank v) xs (w ∷ ys) h.0).1, rising_less xs ys w h.1)
 
-pub rising_more : (xs ys : List Waiting) (w : Waiting) → Rising (xs ++ ys) → AllByRecursion (λ v. rank v < rank w) xs → AllByRecursion (λ v. rank w < rank v) ys → Rising (xs ++ w ∷ ys)
+rising_more : (xs ys : List Waiting) (w : Waiting) → Rising (xs ++ ys) → AllByRecursion (λ v. rank v < rank w) xs → AllByRecursion (λ v. rank w < rank v) ys → Rising (xs ++ w ∷ ys)
 rising_more [] ys w h below above = (above, h)
 rising_more (x ∷ xs) ys w h below above =
     (w_both (λ v. rank x < rank v) xs (w ∷ ys) (w_front (λ v. rank x < rank v) xs ys h.0) (below.0, w_behind (λ v. rank x < rank v) xs ys h.0), rising_more xs ys w h.1 below.1 above)
@@ -106,7 +106,7 @@ changed_not es fs n e h k ne = h k ∙ elim (nat_eq k n) as (λ b. nat_eq k n �
   | false ↦ λ other. refl
 ] refl
 
-pub same_map : (es fs : List (Option QueueEntry)) (n : ℕ) (e : Option QueueEntry) → Changed es fs n e → (ks : List ℕ) → Misses n ks → map (waiting_at fs) ks ≡ map (waiting_at es) ks
+same_map : (es fs : List (Option QueueEntry)) (n : ℕ) (e : Option QueueEntry) → Changed es fs n e → (ks : List ℕ) → Misses n ks → map (waiting_at fs) ks ≡ map (waiting_at es) ks
 same_map es fs n e h [] m = refl
 same_map es fs n e h (k ∷ ks) m =
     ap (λ (o : Option QueueEntry). waiting k o ∷ map (waiting_at fs) ks) (changed_not es fs n e h k (λ q. m.0 (sym q)))
@@ -162,7 +162,7 @@ kept_more es fs n e members size at kept h w m fit late wide =
     }
 
 -- what the order is after a request was taken out
-pub order_less : (es fs : List (Option QueueEntry)) (n : ℕ) (members : List ℕ) → Differ members → Changed es fs n None → (w : IsMember members n)
+order_less : (es fs : List (Option QueueEntry)) (n : ℕ) (members : List ℕ) → Differ members → Changed es fs n None → (w : IsMember members n)
     → map (waiting_at fs) (w.front ++ w.behind) ≡ map (waiting_at es) w.front ++ map (waiting_at es) w.behind
 order_less es fs n members d h w =
     same_map es fs n None h (w.front ++ w.behind) (misses_here w.front w.behind n (subst Differ w.parts d)) ∙ map_both (waiting_at es) w.front w.behind
@@ -227,7 +227,7 @@ pub misses_node : (es : List (Option QueueEntry)) (n : ℕ) (ks : List ℕ) → 
 misses_node es n [] h = tt
 misses_node es n (k ∷ ks) h = ((λ e. h.0 (sym e)), misses_node es n ks h.1)
 
-pub nodes_miss : (es : List (Option QueueEntry)) (n : ℕ) (ks : List ℕ) → Misses n ks → AllByRecursion (λ w. w.node ≢ n) (map (waiting_at es) ks)
+nodes_miss : (es : List (Option QueueEntry)) (n : ℕ) (ks : List ℕ) → Misses n ks → AllByRecursion (λ w. w.node ≢ n) (map (waiting_at es) ks)
 nodes_miss es n [] h = tt
 nodes_miss es n (k ∷ ks) h = ((λ e. h.0 (sym e)), nodes_miss es n ks h.1)
 

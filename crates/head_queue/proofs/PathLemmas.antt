@@ -55,7 +55,7 @@ misses_last k p (x ∷ xs) ne h = misses_last k x xs h.0 h.1
 -- ---- paths
 
 -- links elsewhere don't count
-pub path_kept : (f b g c : ℕ → ℕ) (from to also p : ℕ) (xs : List ℕ) (e : ℕ)
+path_kept : (f b g c : ℕ → ℕ) (from to also p : ℕ) (xs : List ℕ) (e : ℕ)
     → ((s : ℕ) → s ≢ from → s ≢ also → g s ≡ f s) → ((t : ℕ) → t ≢ to → t ≢ also → c t ≡ b t)
     → from ≢ p → also ≢ p → Misses from xs → Misses also xs → also ≢ e → Misses to xs → to ≢ e
     → IsPath f b p xs e → IsPath g c p xs e

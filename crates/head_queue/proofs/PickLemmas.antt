@@ -70,7 +70,7 @@ as_number_less true c e f = cc
 as_number_less false false e f = cc
 
 -- on the same partition
-pub first_side : (head : Place) (x y : Place) (a : ℕ) → x.part ≡ y.part → nat_lt x.pos head.pos ≢ nat_lt y.pos head.pos
+first_side : (head : Place) (x y : Place) (a : ℕ) → x.part ≡ y.part → nat_lt x.pos head.pos ≢ nat_lt y.pos head.pos
     → nat_lt y.pos head.pos ≡ is_upto (key head x 0) (key head y (a + 1))
 first_side head x y a same ne = by (nat_lt x.pos head.pos) (nat_lt y.pos head.pos) refl refl ne
   where
@@ -89,7 +89,7 @@ first_side head x y a same ne = by (nat_lt x.pos head.pos) (nat_lt y.pos head.po
     by true false e f n = f ∙ sym (beyond 1 0 (x.pos ∷ 0 ∷ []) (y.pos ∷ (a + 1) ∷ []) (omega arith)) ∙ sym (parts ∙ ap (λ (b : Bool). is_upto (kx b) (ky (nat_lt y.pos head.pos))) e ∙ ap (λ (b : Bool). is_upto (kx true) (ky b)) f)
     by false true e f n = f ∙ sym (lesser 0 1 (x.pos ∷ 0 ∷ []) (y.pos ∷ (a + 1) ∷ []) (omega arith)) ∙ sym (parts ∙ ap (λ (b : Bool). is_upto (kx b) (ky (nat_lt y.pos head.pos))) e ∙ ap (λ (b : Bool). is_upto (kx false) (ky b)) f)
 
-pub first_pos : (head : Place) (x y : Place) (a : ℕ) → x.part ≡ y.part → nat_lt x.pos head.pos ≡ nat_lt y.pos head.pos
+first_pos : (head : Place) (x y : Place) (a : ℕ) → x.part ≡ y.part → nat_lt x.pos head.pos ≡ nat_lt y.pos head.pos
     → nat_le x.pos y.pos ≡ is_upto (key head x 0) (key head y (a + 1))
 first_pos head x y a same side = sym (
     rest_of (as_number (not (same_part x.part head.part))) (as_number (not (same_part y.part head.part))) (key_within head.pos x.pos 0) (key_within head.pos y.pos (a + 1)) (ap (λ (p : Part). as_number (not (same_part p head.part))) same)
@@ -101,7 +101,7 @@ first_pos head x y a same side = sym (
     by (inr (inl e)) = alike x.pos y.pos (0 ∷ []) ((a + 1) ∷ []) e (lesser 0 (a + 1) [] [] (omega arith)) ∙ (let t : nat_le x.pos y.pos ≡ true = grind (arith, nat_tests) in sym t)
     by (inr (inr m)) = beyond x.pos y.pos (0 ∷ []) ((a + 1) ∷ []) m ∙ (let t : nat_le x.pos y.pos ≡ false = grind (arith, nat_tests) in sym t)
 
-pub first_part : (head : Place) (x y : Place) (a : ℕ) → x.part ≢ y.part → same_part x.part head.part ≡ is_upto (key head x 0) (key head y (a + 1))
+first_part : (head : Place) (x y : Place) (a : ℕ) → x.part ≢ y.part → same_part x.part head.part ≡ is_upto (key head x 0) (key head y (a + 1))
 first_part head x y a ne = by head.part x.part y.part ne (key_within head.pos x.pos 0) (key_within head.pos y.pos (a + 1))
   where
     by : (h p q : Part) → p ≢ q → (xs ys : List ℕ) → same_part p h ≡ is_upto (as_number (not (same_part p h)) ∷ xs) (as_number (not (same_part q h)) ∷ ys)
@@ -144,7 +144,7 @@ request_picked head op ws w i least far = record {
     by (Some at) f = ap (λ (b : Bool). b && list_all (λ other. is_upto (request_key head (request w)) other) (map (request_key head) (map request (by_arrival ws)))) (turned_round (key head at 0) (request_key head (request w)) f) ∙ rest
 
 -- the op, where it comes before the first request
-pub op_picked : (head : Place) (op : Option Place) (at : Place) (ws : List Waiting) → op ≡ Some at
+op_picked : (head : Place) (op : Option Place) (at : Place) (ws : List Waiting) → op ≡ Some at
     → AllByRecursion (λ v. is_upto (key head at 0) (request_key head (request v)) ≡ true) ws → IsOpPicked head op (by_arrival ws)
 op_picked head op at ws is least = record {
   at = at;
@@ -160,7 +160,7 @@ pub op_first : (head : Place) (op : Option Place) (at : Place) (ws : List Waitin
 op_first head op at ws w is least h = op_picked head op at ws is (each_on head (key head at 0) w ws h least)
 
 -- what is picked has a number that can be taken out
-pub has_picked : (head : Place) (op : Option Place) (ws : List Waiting) (node owner : ℕ) (place : Place) → IsPicked head op ws node owner place → HasNode ws node
+has_picked : (head : Place) (op : Option Place) (ws : List Waiting) (node owner : ℕ) (place : Place) → IsPicked head op ws node owner place → HasNode ws node
 has_picked head op ws node owner place p = record {
   front = p.waits.front;
   here = record { node = node; owner = owner; place = place; arrival = p.arrival };

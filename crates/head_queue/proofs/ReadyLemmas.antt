@@ -23,7 +23,7 @@ use Rattle.head_queue.proofs.ArrivalLemmas.{sorted_in, sorted_all, sorted_length
 -- ---- numbers
 
 -- one of them stands elsewhere
-pub moved : (fs bs cs ds : List ℕ) (n size : ℕ) → fs ++ bs ≡ cs ++ ds → AreNumbers (fs ++ n ∷ bs) size → AreNumbers (cs ++ n ∷ ds) size
+moved : (fs bs cs ds : List ℕ) (n size : ℕ) → fs ++ bs ≡ cs ++ ds → AreNumbers (fs ++ n ∷ bs) size → AreNumbers (cs ++ n ∷ ds) size
 moved fs bs cs ds n size same kept =
     let differ : Differ (0 ∷ (fs ++ bs)) = differ_less (0 ∷ fs) bs n kept.differ in
     let misses : Misses n (0 ∷ (fs ++ bs)) = misses_here (0 ∷ fs) bs n kept.differ in
@@ -40,7 +40,7 @@ moved fs bs cs ds n size same kept =
     counted a b c d e f g = omega arith
 
 -- the next number is free too
-pub wider : (free nodes : List ℕ) (size : ℕ) → AreNumbers (free ++ nodes) size → AreNumbers ((free ++ (size + 1) ∷ []) ++ nodes) (size + 1)
+wider : (free nodes : List ℕ) (size : ℕ) → AreNumbers (free ++ nodes) size → AreNumbers ((free ++ (size + 1) ∷ []) ++ nodes) (size + 1)
 wider free nodes size kept = subst (λ (ks : List ℕ). AreNumbers ks (size + 1)) (sym (append_assoc free ((size + 1) ∷ []) nodes)) (record {
   differ = differ_more (0 ∷ free) nodes (size + 1) ((λ e. omega arith), past (free ++ nodes) kept.within) kept.differ;
   within = all_both (λ k. k ≤ size + 1) free ((size + 1) ∷ nodes) (weaker free (all_front (λ k. k ≤ size) free nodes kept.within)) (omega arith, weaker nodes (all_behind (λ k. k ≤ size) free nodes kept.within));
@@ -74,7 +74,7 @@ popped xs rest n len e lt v r =
 
 -- ---- what is told of a number
 
-pub nodes_miss_by : (n : ℕ) (ws : List Waiting) → Misses n (map node_of ws) → AllByRecursion (λ w. w.node ≢ n) ws
+nodes_miss_by : (n : ℕ) (ws : List Waiting) → Misses n (map node_of ws) → AllByRecursion (λ w. w.node ≢ n) ws
 nodes_miss_by n [] h = tt
 nodes_miss_by n (w ∷ ws) h = ((λ e. h.0 (sym e)), nodes_miss_by n ws h.1)
 
@@ -91,7 +91,7 @@ owned_here w [] ys h = one (Some w.owner) (owner_of w.node (map owned ys)) w.nod
 owned_here w (x ∷ xs) ys h = other (Some x.owner) (owner_of w.node (map owned (xs ++ w ∷ ys))) w.node x.node h.0 ∙ owned_here w xs ys h.1
 
 -- a number that is an owner's has a request of that owner
-pub has_owned : (n o : ℕ) (ws : List Waiting) → owner_of n (map owned ws) ≡ Some o → HasOwner ws o n
+has_owned : (n o : ℕ) (ws : List Waiting) → owner_of n (map owned ws) ≡ Some o → HasOwner ws o n
 has_owned n o [] h = let e : None ≡ Some o = h in absurd (some_not o (sym e))
 has_owned n o (w ∷ ws) h = elim (nat_eq n w.node) as (λ t. nat_eq n w.node ≡ t → cond t (Some w.owner) (owner_of n (map owned ws)) ≡ Some o → HasOwner (w ∷ ws) o n) [
   | true ↦ λ e g. record { has = record { front = []; here = w; behind = ws; parts = refl; node = sym (eqb-true n w.node e) }; owner = ap number_or g }
@@ -104,14 +104,14 @@ has_owned n o (w ∷ ws) h = elim (nat_eq n w.node) as (λ t. nat_eq n w.node �
       owner = g.owner;
     }
 
-pub owner_sorted : (ws : List Waiting) (o n : ℕ) → HasOwner ws o n → HasOwner (by_arrival ws) o n
+owner_sorted : (ws : List Waiting) (o n : ℕ) → HasOwner ws o n → HasOwner (by_arrival ws) o n
 owner_sorted ws o n h = by (sorted_in ws h.has.front h.has.behind h.has.here h.has.parts)
   where
     by : IsIn (by_arrival ws) h.has.here → HasOwner (by_arrival ws) o n
     by i = record { has = record { front = i.front; here = h.has.here; behind = i.behind; parts = i.parts; node = h.has.node }; owner = h.owner }
 
 -- where no number is an owner's, no request is
-pub none_owned : (o : ℕ) (ws : List Waiting) → Differ (map node_of ws) → ((k : ℕ) → owner_of k (map owned ws) ≢ Some o) → AllByRecursion (λ w. w.owner ≢ o) ws
+none_owned : (o : ℕ) (ws : List Waiting) → Differ (map node_of ws) → ((k : ℕ) → owner_of k (map owned ws) ≢ Some o) → AllByRecursion (λ w. w.owner ≢ o) ws
 none_owned o ws d h = by [] ws refl
   where
     by : (xs ys : List Waiting) → ws ≡ xs ++ ys → AllByRecursion (λ w. w.owner ≢ o) ys
@@ -304,7 +304,7 @@ not_owner o w ne = elim (nat_eq w.owner o) as (λ b. nat_eq w.owner o ≡ b → 
   | false ↦ λ e. refl
 ] refl
 
-pub any_there : (o : ℕ) (xs ys : List Waiting) (w : Waiting) → w.owner ≡ o → list_any (λ (v : Waiting). nat_eq v.owner o) (xs ++ w ∷ ys) ≡ true
+any_there : (o : ℕ) (xs ys : List Waiting) (w : Waiting) → w.owner ≡ o → list_any (λ (v : Waiting). nat_eq v.owner o) (xs ++ w ∷ ys) ≡ true
 any_there o [] ys w is = ap (λ (b : Bool). b || list_any (λ (v : Waiting). nat_eq v.owner o) ys) (eq-eqb w.owner o is)
 any_there o (x ∷ xs) ys w is = by (nat_eq x.owner o) (any_there o xs ys w is)
   where

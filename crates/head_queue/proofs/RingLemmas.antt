@@ -10,7 +10,7 @@ use Rattle.head_queue.proofs.PathLemmas.{Puts, Joins, path_more, path_less, path
 
 -- ---- tests of numbers
 
-pub chosen : (x y a b : ℕ) → a ≡ b → cond (nat_eq a b) x y ≡ x
+chosen : (x y a b : ℕ) → a ≡ b → cond (nat_eq a b) x y ≡ x
 chosen x y a b e = ap (λ (t : Bool). cond t x y) (eq-eqb a b e)
 
 -- a choice by two numbers that differ is the second
@@ -48,7 +48,7 @@ pub last_holds : (P : ℕ → Type 0) (p : ℕ) (xs : List ℕ) → P p → AllB
 last_holds P p [] hp h = hp
 last_holds P p (x ∷ xs) hp h = last_holds P x xs h.0 h.1
 
-pub first_holds : (P : ℕ → Type 0) (e : ℕ) (xs : List ℕ) → P e → AllByRecursion P xs → P (first_of e xs)
+first_holds : (P : ℕ → Type 0) (e : ℕ) (xs : List ℕ) → P e → AllByRecursion P xs → P (first_of e xs)
 first_holds P e [] he h = he
 first_holds P e (x ∷ xs) he h = h.0
 
@@ -85,7 +85,7 @@ next_is f b size count at xs r w = ap f w.last ∙ path_after f b 0 w.front w.be
 pub before_is : (f b : ℕ → ℕ) (size count k : ℕ) (xs : List ℕ) → IsRing f b size xs count → (w : IsMember xs k) → b k ≡ last_of 0 w.front
 before_is f b size count k xs r w = (path_at f b k 0 w.front w.behind 0 (subst (λ (ys : List ℕ). IsPath f b 0 ys 0) w.parts r.path)).0
 
-pub after_is : (f b : ℕ → ℕ) (size count k : ℕ) (xs : List ℕ) → IsRing f b size xs count → (w : IsMember xs k) → f k ≡ first_of 0 w.behind
+after_is : (f b : ℕ → ℕ) (size count k : ℕ) (xs : List ℕ) → IsRing f b size xs count → (w : IsMember xs k) → f k ≡ first_of 0 w.behind
 after_is f b size count k xs r w = (path_at f b k 0 w.front w.behind 0 (subst (λ (ys : List ℕ). IsPath f b 0 ys 0) w.parts r.path)).1
 
 -- the number before one of the chain is within the size

@@ -34,7 +34,7 @@ last_is p k [] = refl
 last_is p k (x ∷ xs) = last_is x k xs
 
 -- those in front of a request stand before it
-pub before_it : (f : ℕ → Waiting) (xs ys : List ℕ) (k : ℕ) → Rising (map f (xs ++ k ∷ ys)) → AllByRecursion (λ j. rank (f j) < rank (f k)) xs
+before_it : (f : ℕ → Waiting) (xs ys : List ℕ) (k : ℕ) → Rising (map f (xs ++ k ∷ ys)) → AllByRecursion (λ j. rank (f j) < rank (f k)) xs
 before_it f [] ys k h = tt
 before_it f (x ∷ xs) ys k h = (within xs h.0, before_it f xs ys k h.1)
   where
@@ -77,7 +77,7 @@ goes es m members at next w leads = by w.passed.cut.behind w.passed.cut.parts w.
           (subst (λ (n : ℕ). rank (waiting_at es n) < m) is leads.below, tt);
     }
 
-pub rest_is : (p : ℕ) (front behind : List ℕ) → Differ (p ∷ (front ++ behind)) → rest_after (last_of p front) (p ∷ (front ++ behind)) ≡ behind
+rest_is : (p : ℕ) (front behind : List ℕ) → Differ (p ∷ (front ++ behind)) → rest_after (last_of p front) (p ∷ (front ++ behind)) ≡ behind
 rest_is p [] behind d = ap (λ (b : Bool). cond b behind (rest_after p behind)) (eq-eqb p p refl)
 rest_is p (x ∷ xs) behind d =
     skip (x ∷ (xs ++ behind)) (λ e. misses_last p x xs d.0.0 (misses_front p xs behind d.0.1) (sym e)) ∙ rest_is x xs behind d.1

@@ -194,7 +194,7 @@ pub ip_still : (s : Stocked) (due : Option (Vec ℕ Global)) (g : Given) (st : S
     → IsIpEnd (option_map (λ (doc : Vec ℕ Global). doc.items) due) g st at s s (Ok tt)
 ip_still s due g st at is = subst (λ (due : Option (Vec ℕ Global)). IsIpEnd (option_map (λ (doc : Vec ℕ Global). doc.items) due) g st at s s (Ok tt)) (sym is) (refl, refl)
 
-pub ip_unchanged : (t : FileTree) (l now : Plan) (f after : Frame) (text : List ℕ) (e : AdmitErr) → IsCloseOf text l now f after (Err e) → IsUnchanged (stocked t l f) (stocked t now after)
+ip_unchanged : (t : FileTree) (l now : Plan) (f after : Frame) (text : List ℕ) (e : AdmitErr) → IsCloseOf text l now f after (Err e) → IsUnchanged (stocked t l f) (stocked t now after)
 ip_unchanged t l now f after text e s =
     subst (λ p. IsUnchanged (stocked t l f) (stocked t p after)) (sym (same e s.admitted)) (subst (λ a. IsUnchanged (stocked t l f) (stocked t l a)) (sym s.frame) alike)
   where

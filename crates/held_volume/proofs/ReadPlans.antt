@@ -100,11 +100,11 @@ module _ (t : FileTree) (path : Path) (file offset count : ℕ) (room : Room) (g
         ap (λ (tree : plain.Tree). st.files (uid_at tree.nodes path)) (sym i.plain) ∙ ap st.files uid
         ∙ i.files.lies path has.node room here has.file
 
-pub stands_of : (t : FileTree) (file : ℕ) (room : Room) → HasExtents t.nodes file room → (piece : Piece) → StandsWhere (FileStandsIn room.laid) piece → PieceStandsIn t piece
+stands_of : (t : FileTree) (file : ℕ) (room : Room) → HasExtents t.nodes file room → (piece : Piece) → StandsWhere (FileStandsIn room.laid) piece → PieceStandsIn t piece
 stands_of t file room has (Zeros count) h = tt
 stands_of t file room has (Stored place byte count) h = record { number = file; laid = room.laid; file = has_laid t file room has; block = h }
 
-pub lies_of : (tape : Tape) (g : Given) (on : Bool) (st : Standing) (t : FileTree) (l : Plan) (f : Frame) → IsStock tape g on st (stocked t l f) → (piece : Piece) → PieceStandsIn t piece → PieceLiesBelow (ends_of st.space.ends) piece
+lies_of : (tape : Tape) (g : Given) (on : Bool) (st : Standing) (t : FileTree) (l : Plan) (f : Frame) → IsStock tape g on st (stocked t l f) → (piece : Piece) → PieceStandsIn t piece → PieceLiesBelow (ends_of st.space.ends) piece
 lies_of tape g on st t l f i (Zeros count) h = tt
 lies_of tape g on st t l f i (Stored place byte count) h = i.below place.part place.pos h
 

@@ -51,7 +51,7 @@ use Rattle.held_volume.proofs.TreeSteps.{unchanged}
 
 -- ---- what is held is as it was
 
-pub same_stands : (before next : FileTree) (l : Plan) (f : Frame) → IsSameTree before next → (tape : Tape) (g : Given) (on : Bool) (st : Standing)
+same_stands : (before next : FileTree) (l : Plan) (f : Frame) → IsSameTree before next → (tape : Tape) (g : Given) (on : Bool) (st : Standing)
     → IsStock tape g on st (stocked before l f) → IsStock tape g on st (stocked next l f)
 same_stands before next l f same tape g on st i = record {
   plain = same.plain tape ∙ i.plain;
@@ -126,7 +126,7 @@ module _ (t : FileTree) (l : Plan) (f : Frame) (call : Call) (at : Moment) (earl
   }
 
 -- a call that changes the tree and asks nothing is done with its step
-pub step_done : (before next : FileTree) (l : Plan) (f : Frame) (call : Call) (at : Moment) (changed : Bool) → IsTreeStep call at changed before next
+step_done : (before next : FileTree) (l : Plan) (f : Frame) (call : Call) (at : Moment) (changed : Bool) → IsTreeStep call at changed before next
     → (early : Tape) (g : Given) (on : Bool) (st : Standing) → IsStock early g on st (stocked before l f) → IsDone early g on st call at (stocked before l f) (stocked next l (with_change changed f))
 step_done before next l f call at true step early g on st i = change_done before next l f call at step early g on st i
 step_done before next l f call at false step early g on st i =

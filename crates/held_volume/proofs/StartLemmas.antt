@@ -58,7 +58,7 @@ found_at (first ∷ nodes) (suc at) node is apart =
         equal a b e = grind (arith, nat_tests, e)
     by false test later = ap (λ b. cond b (Some first) (find (has_uid node.uid) nodes)) test ∙ later
 
-pub not_found : (nodes : List told.Node) (highest uid : ℕ) → ((at : ℕ) (node : told.Node) → IsAt nodes at node → node.uid ≤ highest) → highest < uid → find (has_uid uid) nodes ≡ None
+not_found : (nodes : List told.Node) (highest uid : ℕ) → ((at : ℕ) (node : told.Node) → IsAt nodes at node → node.uid ≤ highest) → highest < uid → find (has_uid uid) nodes ≡ None
 not_found [] highest uid most more = refl
 not_found (first ∷ nodes) highest uid most more =
     ap (λ b. cond b (Some first) (find (has_uid uid) nodes)) (differ first.uid (most zero first refl)) ∙ not_found nodes highest uid (λ at node is. most (suc at) node is) more

@@ -34,10 +34,10 @@ use Rattle.held_volume.proofs.Texts.{text_is}
 
 -- ---- a sync
 
-pub asked_nothing : (g : Given) (st : Standing) (at : Moment) → st.space.changed ≡ false → ask_of g st asks.Sync at ≡ nothing
+asked_nothing : (g : Given) (st : Standing) (at : Moment) → st.space.changed ≡ false → ask_of g st asks.Sync at ≡ nothing
 asked_nothing g st at is = ap (λ b. cond b (index (sync_text g st at)) nothing) is
 
-pub space_changed : (early : Tape) (g : Given) (on : Bool) (st : Standing) (s : Stocked) → IsStock early g on st s → (b : Bool) → s.frame.changed ≡ b → st.space.changed ≡ b
+space_changed : (early : Tape) (g : Given) (on : Bool) (st : Standing) (s : Stocked) → IsStock early g on st s → (b : Bool) → s.frame.changed ≡ b → st.space.changed ≡ b
 space_changed early g on st s i b is = sym (ap (λ (f : Frame). f.changed) i.frame) ∙ is
 
 module _ (t : FileTree) (l : Plan) (f : Frame) (at : Moment) (text : List ℕ) (early : Tape) (g : Given) (on : Bool) (st : Standing)
@@ -128,7 +128,7 @@ module _ (t : FileTree) (l : Plan) (f : Frame) (at : Moment) (text : List ℕ) (
 -- ---- results
 
 -- a text is admitted, or isn't
-pub synced : (t : FileTree) (l now : Plan) (f after : Frame) (at : Moment) (text : List ℕ) (early : Tape) (g : Given) (on : Bool) (st : Standing) → IsStock early g on st (stocked t l f)
+synced : (t : FileTree) (l now : Plan) (f after : Frame) (at : Moment) (text : List ℕ) (early : Tape) (g : Given) (on : Bool) (st : Standing) → IsStock early g on st (stocked t l f)
     → IsDocument g st at (Some text) → (e : AdmitErr) → IsSync text l now f after (Err e) → IsChange early g on st asks.Sync at (stocked t l f) (stocked t now after) (Err e)
 synced t l now f after at text early g on st i told (Full need limit) s = sync_full t l f at text early g on st i told.1 told.0 need limit s.admitted.0 s.admitted.1 s.admitted.2
 synced t l now f after at text early g on st i told NoMemory s = tt
@@ -145,7 +145,7 @@ pub sync_still : (t : FileTree) (l : Plan) (f : Frame) (early : Tape) (g : Given
     → IsDocument g st at None → IsDone early g on st asks.Sync at (stocked t l f) (stocked t l f)
 sync_still t l f early g on st at i told = still_done t l f asks.Sync at early g on st i (asked_nothing g st at told)
 
-pub sync_unchanged : (t : FileTree) (l now : Plan) (f after : Frame) (text : List ℕ) (e : AdmitErr) → IsSync text l now f after (Err e) → IsUnchanged (stocked t l f) (stocked t now after)
+sync_unchanged : (t : FileTree) (l now : Plan) (f after : Frame) (text : List ℕ) (e : AdmitErr) → IsSync text l now f after (Err e) → IsUnchanged (stocked t l f) (stocked t now after)
 sync_unchanged t l now f after text e s =
     subst (λ p. IsUnchanged (stocked t l f) (stocked t p after)) (sym (same e s.admitted)) (subst (λ a. IsUnchanged (stocked t l f) (stocked t l a)) (sym s.frame) alike)
   where

@@ -31,7 +31,7 @@ dir_in None = false
 dir_in (Some mark) = mark.1
 
 -- a change of a node that keeps its mark keeps all marks
-pub changed_mark : (change : Node → Node) → ((n : Node) → mark_of (Some (change n)) ≡ mark_of (Some n)) → (p : Path) (m : Nodes) (q : Path) → mark_at (changed_at change p m) q ≡ mark_at m q
+changed_mark : (change : Node → Node) → ((n : Node) → mark_of (Some (change n)) ≡ mark_of (Some n)) → (p : Path) (m : Nodes) (q : Path) → mark_at (changed_at change p m) q ≡ mark_at m q
 changed_mark change keeps p m q = by (fin.get m p) refl
   where
     by : (o : Option Node) → fin.get m p ≡ o → mark_at (changed_at change p m) q ≡ mark_at m q

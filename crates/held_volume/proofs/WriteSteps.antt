@@ -68,7 +68,7 @@ is_ok_then (Ok done) e h = h
 is_ok_then (Err why) e h = absurd cc
 
 -- an end of a partition is far from the greatest number
-pub end_near : (limits : Limits) (size : ℕ) (ends : Ends) (ops : List Op) (part : Part) → AreStanding limits size ends ops → end_of part ends ≤ most_positions
+end_near : (limits : Limits) (size : ℕ) (ends : Ends) (ops : List Op) (part : Part) → AreStanding limits size ends ops → end_of part ends ≤ most_positions
 end_near limits size ends ops part s = by part
   where
     by : (p : Part) → end_of p ends ≤ most_positions

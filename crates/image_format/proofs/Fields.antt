@@ -8,7 +8,7 @@ use Rattle.std.proofs.lemmas.List.FromFn.{length-map-range_with_len, get_or-map-
 use Rattle.std.proofs.lemmas.Nat.{from_be_bytes-to_be_bytes_8}
 
 -- a list of n numbers, one by one
-pub listed : (n : ℕ) (xs : List ℕ) → length xs ≡ n → xs ≡ map (λ k. get_or xs k 0) (range_with_len 0 n)
+listed : (n : ℕ) (xs : List ℕ) → length xs ≡ n → xs ≡ map (λ k. get_or xs k 0) (range_with_len 0 n)
 listed n xs long =
     same_number_lists xs (map (λ k. get_or xs k 0) (range_with_len 0 n)) (long ∙ sym (length-map-range_with_len (λ k. get_or xs k 0) 0 n))
     (λ k lt. sym (get_or-map-range_with_len (λ j. get_or xs j 0) 0 n k k 0 (omega arith) (omega arith)))

@@ -21,7 +21,7 @@ inside k m n xs le =
     ∙ ap (λ (l : List ℕ). take m l) (drop-take k (n - k) xs)
     ∙ take-take m (n - k) (drop k xs) (omega (arith, le))
 
-pub if_told : (o : Option Files) (P : Files → Type 0) → ((d : Files) → o ≡ Some d → P d) → IfSome o P
+if_told : (o : Option Files) (P : Files → Type 0) → ((d : Files) → o ≡ Some d → P d) → IfSome o P
 if_told None P each = tt
 if_told (Some d) P each = each d refl
 

@@ -26,7 +26,7 @@ pub in_front_none : (r : Result (List Item) ℕ) → in_front [] r ≡ r
 in_front_none (Ok more) = refl
 in_front_none (Err n) = refl
 
-pub followed_front : (at : ℕ) (x : Item) (xs : List Item) (r : Result (List Item) ℕ) → followed at (Some x) (in_front xs r) ≡ in_front (x ∷ xs) r
+followed_front : (at : ℕ) (x : Item) (xs : List Item) (r : Result (List Item) ℕ) → followed at (Some x) (in_front xs r) ≡ in_front (x ∷ xs) r
 followed_front at x xs (Ok more) = refl
 followed_front at x xs (Err n) = refl
 

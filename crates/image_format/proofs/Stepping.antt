@@ -47,7 +47,7 @@ bytes_more items x =
     ∙ length-append (flat_map record_bytes items) (record_bytes x ++ [])
     ∙ ap (λ (l : List ℕ). length (flat_map record_bytes items) + length l) (append-nil (record_bytes x))
 
-pub begins : (count end : ℕ) (file : List ℕ) → HasCome count end file 0 0 []
+begins : (count end : ℕ) (file : List ℕ) → HasCome count end file 0 0 []
 begins count end file = record {
   items = [];
   left = sym (in_front_none (first_items (count - 0) 0 (rest_of 0 end file)) ∙ ap (λ (k : ℕ). first_items k 0 (take end file)) (let e : count - 0 ≡ count = omega arith in e));

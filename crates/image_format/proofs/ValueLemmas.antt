@@ -46,7 +46,7 @@ note_only b bytes false e = e
 abbrev half_with : List ℕ → Bool → Note → Half
 half_with raw torn note = record { count = number_at raw 0; end = number_at raw 8; torn = torn; note = note }
 
-pub half_found : (raw : List ℕ) (h : Half) → IsHalf raw h → half_of raw ≡ Some h
+half_found : (raw : List ℕ) (h : Half) → IsHalf raw h → half_of raw ≡ Some h
 half_found raw h is =
     let torn : flag_in (slice_index raw 16) ≡ Some h.torn = ap flag_in is.torn ∙ flag_found h.torn in
     let note : flag_in (slice_index raw 17) ≡ Some (noted h.note) =
@@ -72,7 +72,7 @@ half_only_by raw h (Some torn) (Some note) ea eb e =
       note = note_only (slice_index raw 17) (slice_range raw 18 88) note (flag_only (slice_index raw 17) note eb);
     })
 
-pub half_only : (raw : List ℕ) (h : Half) → half_of raw ≡ Some h → IsHalf raw h
+half_only : (raw : List ℕ) (h : Half) → half_of raw ≡ Some h → IsHalf raw h
 half_only raw h e = half_only_by raw h (flag_in (slice_index raw 16)) (flag_in (slice_index raw 17)) refl refl e
 
 abbrev value_with : List ℕ → Half → Half → SlotValue
@@ -108,7 +108,7 @@ value_only raw s long e =
 
 -- what is written
 
-pub note_length : (note : Note) → IsSizedNote note → length (note_bytes note) ≡ 71
+note_length : (note : Note) → IsSizedNote note → length (note_bytes note) ≡ 71
 note_length Absent long = refl
 note_length (Kept note) long = omega (arith, long)
 

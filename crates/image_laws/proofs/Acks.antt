@@ -9,7 +9,7 @@ use Rattle.image_laws.specs.Made.{Base, Job, Made, Trees, Volume, least, makes}
 use Rattle.image_laws.proofs.Fines.{fine, fine_same}
 
 -- the tree stays the same from a later place on
-pub same_from : (t : Trees) (from later to : ℕ) → from ≤ later → IsSame t from to → IsSame t later to
+same_from : (t : Trees) (from later to : ℕ) → from ≤ later → IsSame t from to → IsSame t later to
 same_from t from later to le same = λ j low high. same j (omega (arith, le, low)) high
 
 -- what is acknowledged stays so over a step of which each image stands for what was flushed

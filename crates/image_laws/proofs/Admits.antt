@@ -42,7 +42,7 @@ nothing_behind jobs front (b ∷ behind) is same =
     absurd (omega (arith, ap (λ (l : List Job). length l) is, length-append front (b ∷ behind), same))
 
 -- a sync that the last of all jobs covers
-pub served_last : (t : Trees) (s : Made) (done : ℕ) (jobs : List Job) → IsSame t (least (after s jobs).base) t.count
+served_last : (t : Trees) (s : Made) (done : ℕ) (jobs : List Job) → IsSame t (least (after s jobs).base) t.count
     → IsServed t s done jobs (record { place = t.count; due = done + length jobs })
 served_last t s done jobs same = record {
   placed = omega arith;

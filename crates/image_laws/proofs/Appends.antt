@@ -77,7 +77,7 @@ block_step pos (Bad at) ks b good = absurd (good at refl)
 mark_step : (pos since : ℕ) (ks : List Construct) → IsQuietStep pos (Data since) ks Mark
 mark_step pos since ks = record { good = λ at bad. cc; same = refl; further = λ none. omega (arith, data_before pos since ks none) }
 
-pub front_more : (items : List Item) (x : Item) → front items ≡ items → x ≢ Torn → front (items ++ x ∷ []) ≡ items ++ x ∷ []
+front_more : (items : List Item) (x : Item) → front items ≡ items → x ≢ Torn → front (items ++ x ∷ []) ≡ items ++ x ∷ []
 front_more items x whole is = front_append items (x ∷ []) whole ∙ ap (λ (l : List Item). items ++ l) (front_item x is)
 
 quiet : (items : List Item) (x : Item) → IsOpened items → x ≢ Torn
@@ -95,7 +95,7 @@ quiet items x o is step =
       further = λ none. subst (λ (s : Content). end_ip (content items) ≤ end_ip s) (sym now) (step.further none);
     }
 
-pub quiet_block : (items : List Item) (b : List ℕ) → IsOpened items → IsQuiet items (Block b)
+quiet_block : (items : List Item) (b : List ℕ) → IsOpened items → IsQuiet items (Block b)
 quiet_block items b o =
     quiet items (Block b) o (λ torn. cc)
     (block_step (content items).pos (content items).phase (content items).constructs b o.good)
@@ -115,7 +115,7 @@ quiet_mark items since whole labels is =
 
 -- ---- what was made stays sound
 
-pub dp_more : (v : Volume) (t : Trees) (plan : Cartridge) (b : Base) (dp more : List Item) (last : CoveredIndex) → b.indexes ≢ []
+dp_more : (v : Volume) (t : Trees) (plan : Cartridge) (b : Base) (dp more : List Item) (last : CoveredIndex) → b.indexes ≢ []
     → HasForm (dp ++ more) → indexes_of (dp ++ more) ≡ indexes_of dp → IsDpImage v t plan b dp last
     → IsDpImage v t plan b (dp ++ more) last
 dp_more v t plan b dp more last some form same i =

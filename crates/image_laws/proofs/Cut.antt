@@ -20,7 +20,7 @@ has_form items sound = ⊎_elim
     (either items)
 
 -- a front is the beginning of its list
-pub front_is : (items : List Item) (n : ℕ) → n ≤ length (front items) → take n (front items) ≡ take n items
+front_is : (items : List Item) (n : ℕ) → n ≤ length (front items) → take n (front items) ≡ take n items
 front_is items zero le = refl
 front_is [] (suc n) le = refl
 front_is (Torn ∷ xs) (suc n) le = absurd (omega (arith, le))
@@ -32,7 +32,7 @@ pub cut_is_whole : (items : List Item) (n : ℕ) → n ≤ length (front items) 
 cut_is_whole items n le = front_cut n items ∙ front_is items n le
 
 -- labels are no torn items
-pub labels_front : (items : List Item) (bytes more : List ℕ) → slice_get items 0 ≡ Some (Block bytes) → slice_get items 1 ≡ Some Mark
+labels_front : (items : List Item) (bytes more : List ℕ) → slice_get items 0 ≡ Some (Block bytes) → slice_get items 1 ≡ Some Mark
     → slice_get items 2 ≡ Some (Block more) → slice_get items 3 ≡ Some Mark → 4 ≤ length (front items)
 labels_front [] bytes more a b c d = absurd (let no : None ≡ Some (Block bytes) = a in cc)
 labels_front (x ∷ []) bytes more a b c d = absurd (let no : None ≡ Some Mark = b in cc)

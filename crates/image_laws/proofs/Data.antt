@@ -47,15 +47,15 @@ appended items bs r = record {
 same_indexes : (items : List Item) (bs : List (List ℕ)) → IsReady items → indexes_of (items ++ map Block bs) ≡ indexes_of items
 same_indexes items bs r = ap (λ (s : Content). s.constructs) (blocks_appended items bs r.since r.whole r.labels r.stage)
 
-pub planned_free : (t : Trees) (s : Made) (space : Space) (part : Part) → IsPlanned t s space → IsFree part s
+planned_free : (t : Trees) (s : Made) (space : Space) (part : Part) → IsPlanned t s space → IsFree part s
 planned_free t s space Ip p = p.no_index
 planned_free t s space Dp p = tt
 
-pub planned_ready : (t : Trees) (s : Made) (space : Space) (part : Part) → IsPlanned t s space → IsReady (part_items part s)
+planned_ready : (t : Trees) (s : Made) (space : Space) (part : Part) → IsPlanned t s space → IsReady (part_items part s)
 planned_ready t s space Ip p = p.ready_ip
 planned_ready t s space Dp p = p.ready_dp
 
-pub planned_end : (t : Trees) (s : Made) (space : Space) (part : Part) → IsPlanned t s space → end_of part space.ends ≡ length (part_items part s)
+planned_end : (t : Trees) (s : Made) (space : Space) (part : Part) → IsPlanned t s space → end_of part space.ends ≡ length (part_items part s)
 planned_end t s space Ip p = p.end_ip
 planned_end t s space Dp p = p.end_dp
 

@@ -34,7 +34,7 @@ does_front (ops.Put place bytes) whole s n le = put_front place.part (Block byte
 does_front (ops.Mark place) whole s n le = put_front place.part Mark whole s n le
 does_front (ops.Flush place) whole s n le = (le, refl)
 
-pub front_after : (jobs : List Job) (s : Made) (n : ℕ) → n ≤ length s.ip → take n (after s jobs).ip ≡ take n s.ip
+front_after : (jobs : List Job) (s : Made) (n : ℕ) → n ≤ length s.ip → take n (after s jobs).ip ≡ take n s.ip
 front_after [] s n le = refl
 front_after (job ∷ jobs) s n le =
     let one = does_front job.op job.whole s n le in

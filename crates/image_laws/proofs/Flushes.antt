@@ -93,7 +93,7 @@ none_ahead floor last (Some a) less =
     (λ (p : IsStill last a). absurd (omega (arith, p.0, less)))
     (still_cases last a)
 
-pub counts_cases : (v : Volume) (t : Trees) (plan : Cartridge) (b : Base) (end : ℕ) (more : List Construct) (last : CoveredIndex) → Counts v t plan b end more last
+counts_cases : (v : Volume) (t : Trees) (plan : Cartridge) (b : Base) (end : ℕ) (more : List Construct) (last : CoveredIndex) → Counts v t plan b end more last
     → IsSameOrNewer b.floor b.ahead last
 counts_cases v t plan b end more last (inl h) = inl h.1
 counts_cases v t plan b end more last (inr h) = inr h.0
@@ -159,7 +159,7 @@ pub record CanFlush (plan : Cartridge) (s : Made) : Type 0 where
   pub opened : IsOpened s.ip
   pub sure : s.base.sure ≤ end_ip (content s.ip)
 
-pub end_long : (items : List Item) → IsOpened items → end_ip (content items) ≤ length items
+end_long : (items : List Item) → IsOpened items → end_ip (content items) ≤ length items
 end_long items o = omega (arith, end_ip_within items (opened_long items o), front_within items)
 
 -- a flush of what may be flushed leaves it sound

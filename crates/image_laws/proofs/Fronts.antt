@@ -54,7 +54,7 @@ labels_in_front items first second h k =
 pub long_dp : (c : Cartridge) (l : Labels) → HasLabels c l → 4 ≤ length (front c.dp)
 long_dp c l h = labels_in_front c.dp h.dp_record.bytes h.dp.bytes h.dp_record.stands h.dp.stands
 
-pub long_ip : (c : Cartridge) (l : Labels) → HasLabels c l → 4 ≤ length (front c.ip)
+long_ip : (c : Cartridge) (l : Labels) → HasLabels c l → 4 ≤ length (front c.ip)
 long_ip c l h = labels_in_front c.ip h.ip_record.bytes h.ip.bytes h.ip_record.stands h.ip.stands
 
 -- a front with no more than the labels has no content

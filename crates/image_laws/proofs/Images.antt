@@ -25,7 +25,7 @@ use Rattle.image_laws.proofs.Fronts.{end_within, form_torn, indexes_torn, long_d
 
 -- ---- cartridges and their notes
 
-pub same_note : (part : Part) (c d : Cartridge) → c.note_ip ≡ d.note_ip → c.note_dp ≡ d.note_dp → note_of part c ≡ note_of part d
+same_note : (part : Part) (c d : Cartridge) → c.note_ip ≡ d.note_ip → c.note_dp ≡ d.note_dp → note_of part c ≡ note_of part d
 same_note Ip c d ip dp = ip
 same_note Dp c d ip dp = dp
 
@@ -44,7 +44,7 @@ honest_note_above v vcr c part up lt = record {
   truthful = λ note has uuid same. absurd (omega (arith, up part note has uuid, lt, same));
 }
 
-pub honest_above : (v : Volume) (vcr : ℕ) (c : Cartridge) → AreUpTo v vcr c → vcr < c.vcr → AreHonest v c
+honest_above : (v : Volume) (vcr : ℕ) (c : Cartridge) → AreUpTo v vcr c → vcr < c.vcr → AreHonest v c
 honest_above v vcr c up lt = record { ip = honest_note_above v vcr c Ip up lt; dp = honest_note_above v vcr c Dp up lt }
 
 same_parts : (p : Part) (c d : Cartridge) → items_of p c ≡ items_of p d → items_of (other p) c ≡ items_of (other p) d → (c.ip ≡ d.ip) × (c.dp ≡ d.dp)
@@ -75,13 +75,13 @@ honest_written v p pos x held before c up honest w =
 abbrev pub EndsAt : List Item → Item → List Item → Type 0
 EndsAt good x new = ((new ≡ good) ⊎ (new ≡ good ++ Torn ∷ [])) ⊎ (new ≡ good ++ x ∷ [])
 
-pub cut_at : (pos : ℕ) (x : Item) (good old new : List Item) → pos ≡ length good → take (length good) old ≡ good → IsCut pos x old new → EndsAt good x new
+cut_at : (pos : ℕ) (x : Item) (good old new : List Item) → pos ≡ length good → take (length good) old ≡ good → IsCut pos x old new → EndsAt good x new
 cut_at pos x good old new at is cut =
     let front_is : take pos old ≡ good = ap (λ (n : ℕ). take n old) at ∙ is in
     subst (λ (l : List Item). EndsAt l x new) front_is cut
 
 -- what holds of all three holds of it
-pub at_ends : (Q : List Item → Type 0) (x : Item) (good new : List Item) → Q good → Q (good ++ Torn ∷ []) → Q (good ++ x ∷ []) → EndsAt good x new → Q new
+at_ends : (Q : List Item → Type 0) (x : Item) (good new : List Item) → Q good → Q (good ++ Torn ∷ []) → Q (good ++ x ∷ []) → EndsAt good x new → Q new
 at_ends Q x good new one two three (inl (inl e)) = subst Q (sym e) one
 at_ends Q x good new one two three (inl (inr e)) = subst Q (sym e) two
 at_ends Q x good new one two three (inr e) = subst Q (sym e) three

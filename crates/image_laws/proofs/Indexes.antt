@@ -130,7 +130,7 @@ pub record IsFlushed (v : Volume) (t : Trees) (plan : Cartridge) (s : Made) (job
   pub sure : base.sure ≡ length s.ip
   pub newest_is : newest_entry base ≡ newest_entry s.base
 
-pub leads_sound : (v : Volume) (t : Trees) (plan : Cartridge) (s made : Made) (jobs : List Job) → LeadsTo v t plan s jobs made → IsSound v t plan s
+leads_sound : (v : Volume) (t : Trees) (plan : Cartridge) (s made : Made) (jobs : List Job) → LeadsTo v t plan s jobs made → IsSound v t plan s
     → IsSound v t plan made
 leads_sound v t plan s made jobs l sound =
     subst (λ (m : Made). IsSound v t plan m) l.to (sound_after v t plan jobs s sound l.safe)
@@ -352,7 +352,7 @@ module _ (v : Volume) (t : Trees) (s : Made) (space : Space) (rules : Rules) (te
 
 -- ---- admitted
 
-pub kept_above : (v : Volume) (t : Trees) (s : Made) (since : ℕ) (d : Moment) (done : ℕ) (jobs : List Job) (waits : List Wait) (acks : List Ack)
+kept_above : (v : Volume) (t : Trees) (s : Made) (since : ℕ) (d : Moment) (done : ℕ) (jobs : List Job) (waits : List Wait) (acks : List Ack)
     → Kept v t s since d done jobs waits acks → IsAbove (after s jobs).base.floor (after s jobs).base.ahead
 kept_above v t s since d done jobs waits acks k =
     above_after v t (plan_of s jobs) jobs s k.sound k.safe

@@ -25,7 +25,7 @@ use Rattle.image_laws.specs.Made.{Base, CoveredIndex, Job, Made, Trees, Volume, 
 
 -- ---- lengths
 
-pub labels_long : (c : Cartridge) (l : Labels) → HasLabels c l → (4 ≤ length c.ip) × (4 ≤ length c.dp)
+labels_long : (c : Cartridge) (l : Labels) → HasLabels c l → (4 ≤ length c.ip) × (4 ≤ length c.dp)
 labels_long c l h =
     (omega (arith, slice_get_within c.ip 3 Mark h.ip.stands.mark), omega (arith, slice_get_within c.dp 3 Mark h.dp.stands.mark))
 
@@ -45,7 +45,7 @@ same_length : (n : ℕ) (xs ys : List Item) → take n xs ≡ take n ys → n �
 same_length n xs ys same le =
     omega (arith, length-take n xs, length-take n ys, ap (λ (l : List Item). length l) same, le)
 
-pub some_behind : (more ks : List Construct) → ks ≢ [] → more ++ ks ≢ []
+some_behind : (more ks : List Construct) → ks ≢ [] → more ++ ks ≢ []
 some_behind [] ks some none = some none
 some_behind (k ∷ more) ks some none = cc none
 
@@ -54,7 +54,7 @@ pub image_has_index : (v : Volume) (t : Trees) (plan : Cartridge) (b : Base) (dp
     → IsDpImage v t plan b dp last → indexes_of dp ≢ []
 image_has_index v t plan b dp last some i none = some_behind i.more b.indexes some (sym i.split ∙ none)
 
-pub image_end : (v : Volume) (t : Trees) (plan : Cartridge) (b : Base) (dp : List Item) (last : CoveredIndex) → b.indexes ≢ []
+image_end : (v : Volume) (t : Trees) (plan : Cartridge) (b : Base) (dp : List Item) (last : CoveredIndex) → b.indexes ≢ []
     → IsDpImage v t plan b dp last → end_dp (indexes_of dp) ≤ length plan.dp
 image_end v t plan b dp last some i =
     same_length (end_dp (indexes_of dp)) dp plan.dp i.agrees (end_within dp (image_has_index v t plan b dp last some i))
@@ -184,7 +184,7 @@ does_longer (ops.Mark place) whole s = put_longer place.part Mark whole s
 does_longer (ops.Flush place) whole s =
     record { more_ip = []; ip = sym (append-nil s.ip); more_dp = []; dp = sym (append-nil s.dp) }
 
-pub longer_trans : (a b c : Cartridge) → IsLonger a b → IsLonger b c → IsLonger a c
+longer_trans : (a b c : Cartridge) → IsLonger a b → IsLonger b c → IsLonger a c
 longer_trans a b c l m = record {
   more_ip = l.more_ip ++ m.more_ip;
   ip = m.ip ∙ ap (λ (xs : List Item). xs ++ m.more_ip) l.ip ∙ append_assoc a.ip l.more_ip m.more_ip;
@@ -192,7 +192,7 @@ longer_trans a b c l m = record {
   dp = m.dp ∙ ap (λ (xs : List Item). xs ++ m.more_dp) l.dp ∙ append_assoc a.dp l.more_dp m.more_dp;
 }
 
-pub after_longer : (jobs : List Job) (s : Made) → IsGrown s (after s jobs)
+after_longer : (jobs : List Job) (s : Made) → IsGrown s (after s jobs)
 after_longer [] s = none_longer s
 after_longer (job ∷ jobs) s =
     longer_trans (cartridge_of s) (cartridge_of (makes job s)) (cartridge_of (after (makes job s) jobs))

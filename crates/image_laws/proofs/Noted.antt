@@ -57,7 +57,7 @@ items_as : (part : Part) (c d : Cartridge) → c.ip ≡ d.ip → c.dp ≡ d.dp �
 items_as Ip c d ip dp = ip
 items_as Dp c d ip dp = dp
 
-pub tells_as : (label : Label) (part : Part) (c d : Cartridge) (x y : Coherency) → c.ip ≡ d.ip → c.dp ≡ d.dp → y.generation ≡ x.generation → y.block ≡ x.block
+tells_as : (label : Label) (part : Part) (c d : Cartridge) (x y : Coherency) → c.ip ≡ d.ip → c.dp ≡ d.dp → y.generation ≡ x.generation → y.block ≡ x.block
     → TellsOfLast d label part x → TellsOfLast c label part y
 tells_as label part c d x y ip dp generation block h = record {
   index = h.index;
@@ -152,7 +152,7 @@ module _ (v : Volume) (t : Trees) (plan : Cartridge) (s : Made) (held : Cartridg
 abbrev pub IsNotedOrNot : Part → Note → Cartridge → Cartridge → Type 0
 IsNotedOrNot part note old new = (new ≡ old) ⊎ IsNoted part note old new
 
-pub noted_or_not : {T E : Type 0} (r : Result T E) (part : Part) (note : Note) (old new : Cartridge) → AfterNote r part note old new → IsNotedOrNot part note old new
+noted_or_not : {T E : Type 0} (r : Result T E) (part : Part) (note : Note) (old new : Cartridge) → AfterNote r part note old new → IsNotedOrNot part note old new
 noted_or_not (Ok x) part note old new h = inr h
 noted_or_not (Err x) part note old new h = h
 

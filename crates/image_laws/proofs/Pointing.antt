@@ -19,7 +19,7 @@ behind_newest floor (Some e) (Some i) h =
     let same : i ≡ e.index = (let both : Some i ≡ Some e.index = h.0 in cc) in
     omega (arith, ap (λ (j : Index). j.generation) same)
 
-pub below_of : (on_ip : Option Index) (n m : ℕ) → n < m → IfSome on_ip (λ index. index.generation ≤ n) → IfSome on_ip (λ index. index.generation < m)
+below_of : (on_ip : Option Index) (n m : ℕ) → n < m → IfSome on_ip (λ index. index.generation ≤ n) → IfSome on_ip (λ index. index.generation < m)
 below_of None n m lt h = tt
 below_of (Some i) n m lt h = omega (arith, lt, h)
 
@@ -28,7 +28,7 @@ pub at_most : (on_ip : Option Index) (n m : ℕ) → n ≤ m → IfSome on_ip (�
 at_most None n m le h = tt
 at_most (Some i) n m le h = omega (arith, le, h)
 
-pub points_on : (label : Label) (ips more dps : List Construct) (old new : Index) (on_ip : Option Index) → dps ≢ []
+points_on : (label : Label) (ips more dps : List Construct) (old new : Index) (on_ip : Option Index) → dps ≢ []
     → IfSome on_ip (λ index. index.generation < new.generation)
     → IsLastOnIp label ips dps (Some old) on_ip → IsLastOnIp label ips (more ++ dps) (Some new) on_ip
 points_on label [] more dps old new on_ip some less h = h

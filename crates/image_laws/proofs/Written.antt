@@ -20,10 +20,10 @@ use Rattle.image_laws.proofs.Fronts.{indexes_torn}
 use Rattle.image_laws.proofs.Images.{dp_torn, front_of_dp, honest_written, image_of, ip_torn, sure_within}
 
 -- what a write leaves, done or failed, a crash within it could leave of what stood
-pub written_within : (p : Part) (pos : ℕ) (x : Item) (old new : Cartridge) → IsWritten p pos x old new → WithinWrite p pos x old old new
+written_within : (p : Part) (pos : ℕ) (x : Item) (old new : Cartridge) → IsWritten p pos x old new → WithinWrite p pos x old old new
 written_within p pos x old new w = record { items = inr (inr w.items, w.vcr); rest = w.rest }
 
-pub broken_within : (p : Part) (pos : ℕ) (x : Item) (old new : Cartridge) → IsBroken p pos old new → WithinWrite p pos x old old new
+broken_within : (p : Part) (pos : ℕ) (x : Item) (old new : Cartridge) → IsBroken p pos old new → WithinWrite p pos x old old new
 broken_within p pos x old new w = record {
   items = ⊎_elim
       (λ (same : (items_of p new ≡ items_of p old) × ((new.vcr ≡ old.vcr) ⊎ VcrRose old new)). inl same)

@@ -60,7 +60,7 @@ old_image {leaves_a = leaves_a} first image left = let was = first.now image lef
 pub join_same : {X : Type 0} (x y z : X) → NothingNew x y → NothingNew y z → NothingNew x z
 join_same x y z e f = f ∙ e
 
-pub join_within : (P : Files → Type 0) (x y z : Files) → Within P x y → Within P y z → Within P x z
+join_within : (P : Files → Type 0) (x y z : Files) → Within P x y → Within P y z → Within P x z
 join_within P x y z h k = (k.0 ∙ h.0, k.1 ∙ h.1, k.2)
 
 -- ---- counts

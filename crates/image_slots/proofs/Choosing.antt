@@ -55,7 +55,7 @@ has_value Second cm v c = record {
   counts = inr (to_counts (second_of cm) (first_of cm) _ _ _ _ v (second_gate cm) (first_gate cm) (second_value_in cm c.size) (first_value_in cm) c.gate c.body c.lesser);
 }
 
-pub counts_in : (cm v : List ℕ) → HasValue cm v → (side : Side) × CountsIn side cm v
+counts_in : (cm v : List ℕ) → HasValue cm v → (side : Side) × CountsIn side cm v
 counts_in cm v h = ⊎_elim
     (λ (one : Counts (first_of cm) (second_of cm) × (v ≡ value_in (first_of cm))). (
       First,
@@ -158,7 +158,7 @@ side_counts Second cm size e =
     let h = found (gate_in First cm == 1) (gate_in Second cm == 1) (serial_of (value_at First cm)) (serial_of (value_at Second cm)) Second e in
     record { size = size; gate = eqb-true (gate_in Second cm) 1 h.0; body = refl; lesser = to_lesser (gate_in First cm) _ _ h.1 }
 
-pub counts_side : (side : Side) (cm v : List ℕ) → CountsIn side cm v → side_in cm ≡ Some side
+counts_side : (side : Side) (cm v : List ℕ) → CountsIn side cm v → side_in cm ≡ Some side
 counts_side First cm v c = only (gate_in First cm == 1) (gate_in Second cm == 1) (serial_of (value_at First cm)) (serial_of (value_at Second cm)) First
     (eq-eqb (gate_in First cm) 1 c.gate, from_lesser (gate_in Second cm) _ _ (subst (λ (x : List ℕ). (gate_in Second cm ≢ 1) ⊎ (serial_of (value_at Second cm) < serial_of x)) (sym c.body) c.lesser))
 counts_side Second cm v c = only (gate_in First cm == 1) (gate_in Second cm == 1) (serial_of (value_at First cm)) (serial_of (value_at Second cm)) Second

@@ -11,7 +11,7 @@ use Rattle.image_slots.specs.declared.sides.Side.TheVariants.{First, Second}
 use Rattle.image_slots.proofs.Bytes.{touched_run, touched_size, written_byte, written_run, written_touched}
 use Rattle.image_slots.proofs.Choosing.{has_value}
 
-pub low : (side : Side) → gate_of side ≤ 256
+low : (side : Side) → gate_of side ≤ 256
 low First = omega arith
 low Second = omega arith
 
@@ -27,7 +27,7 @@ beside_turned : (side : Side) (cm : List ℕ) → gate_in side cm ≡ 1 → true
 beside_turned First cm e = sym (eq-eqb (gate_in First cm) 1 e)
 beside_turned Second cm e = sym (eq-eqb (gate_in Second cm) 1 e)
 
-pub opened : (g : ℕ) → true ≡ (g == 1) → g ≡ 1
+opened : (g : ℕ) → true ≡ (g == 1) → g ≡ 1
 opened g e = eqb-true g 1 (sym e)
 
 -- a gate that fails the test of being open is not 1

@@ -24,10 +24,10 @@ use Rattle.image_slots.proofs.Chains.{both_steps, held_has, join_same, later_cau
 use Rattle.image_slots.proofs.Choosing.{has_value}
 
 -- ---- faults
-pub disk_failed : {T U E : Type 0} {a b : ℕ} {e : E} → HasCause {T = U} a b (Err e) → HasFaults {T = T} a b (Err Disk)
+disk_failed : {T U E : Type 0} {a b : ℕ} {e : E} → HasCause {T = U} a b (Err e) → HasFaults {T = T} a b (Err Disk)
 disk_failed h = record { later = h.later; failed = h.failed }
 
-pub then_faults : {T : Type 0} {a b c : ℕ} (r : Result T OpenErr) → a ≤ b → HasFaults b c r → HasFaults a c r
+then_faults : {T : Type 0} {a b c : ℕ} (r : Result T OpenErr) → a ≤ b → HasFaults b c r → HasFaults a c r
 then_faults (Ok x) le h = record { later = omega (arith, le, h.later); failed = tt }
 then_faults (Err Header) le h = record { later = omega (arith, le, h.later); failed = tt }
 then_faults {a = a} {b = b} {c = c} (Err Disk) le h = record { later = omega (arith, le, h.later); failed = rose a b c le h.failed }

@@ -19,7 +19,7 @@ use Rattle.image_tape.specs.Tape.{CrashesOn, View, held_of}
 use Rattle.image_tape.specs.Writes.{Appended, Appends, Fills, Hides, Puts, put_items}
 
 -- cartridges with the same in each place are one
-pub one_cartridge : (part : Part) (c e : Cartridge) → items_of part e ≡ items_of part c → e.vcr ≡ c.vcr → KeepsRest part c e → e ≡ c
+one_cartridge : (part : Part) (c e : Cartridge) → items_of part e ≡ items_of part c → e.vcr ≡ c.vcr → KeepsRest part c e → e ≡ c
 one_cartridge Ip c e items vcr rest = λ i. record { ip = items i; dp = rest.other_part i; vcr = vcr i; note_ip = rest.note_ip i; note_dp = rest.note_dp i }
 one_cartridge Dp c e items vcr rest = λ i. record { ip = rest.other_part i; dp = items i; vcr = vcr i; note_ip = rest.note_ip i; note_dp = rest.note_dp i }
 

@@ -54,7 +54,7 @@ value_fits_by limits (Some x) s e =
     (fits_half x.ip.count limits.cap_ip x.ip.torn both.0, fits_half x.dp.count limits.cap_dp x.dp.torn both.1)
 
 -- a value that is told fits the capacities
-pub value_fits : (limits : Limits) (raw : List ℕ) (s : SlotValue) → header_by limits (Some raw) ≡ Some s → Fits limits.cap_ip s.ip × Fits limits.cap_dp s.dp
+value_fits : (limits : Limits) (raw : List ℕ) (s : SlotValue) → header_by limits (Some raw) ≡ Some s → Fits limits.cap_ip s.ip × Fits limits.cap_dp s.dp
 value_fits limits raw s e = value_fits_by limits (value_of raw) s e
 
 lie_whole : (h : Half) (offsets file : List ℕ) (items : List Item) → AreRecords h file items → offsets ≡ offsets_from 0 items → Lie h h offsets file items
@@ -113,7 +113,7 @@ module _ {D : Type 0} (disk : Ghosts D) (s : slot.View D) (room : Offsets) (valu
       }
 
 -- every record of a value that was read has its offset
-pub read_counts : (limits : Limits) (d : Files) (s : SlotValue) (room : Offsets) → AreFiles d → IsRead limits d (Ok s) room
+read_counts : (limits : Limits) (d : Files) (s : SlotValue) (room : Offsets) → AreFiles d → IsRead limits d (Ok s) room
     → (length room.ip ≡ s.ip.count) × (length room.dp ≡ s.dp.count)
 read_counts limits d s room bytes h =
     let found = h.3 in (

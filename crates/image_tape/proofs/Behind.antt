@@ -37,11 +37,11 @@ use Rattle.image_tape.proofs.Telling.{told_files, tells_of}
 use Rattle.image_tape.proofs.Upkeep.{with_slots}
 
 -- bytes in front of a write stay
-pub kept_front : (k at n : ℕ) (old new : List ℕ) → IsTouched at n old new → k ≤ at → k ≤ length old → take k new ≡ take k old
+kept_front : (k at n : ℕ) (old new : List ℕ) → IsTouched at n old new → k ≤ at → k ≤ length old → take k new ≡ take k old
 kept_front k at n old new touched le within = touched_run touched 0 k (omega (arith, within)) (inl (omega (arith, le)))
 
 -- a write, also one that failed, is one of its range
-pub write_touches : {T E : Type 0} (r : Result T E) (part : Part) (at : ℕ) (bytes : List ℕ) (d e : Files) → at ≤ length (bytes_of (file_of part) d)
+write_touches : {T E : Type 0} (r : Result T E) (part : Part) (at : ℕ) (bytes : List ℕ) (d e : Files) → at ≤ length (bytes_of (file_of part) d)
     → AfterWrite r (file_of part) at bytes d e
     → KeepsOthers (file_of part) d e × IsTouched at (length bytes) (bytes_of (file_of part) d) (bytes_of (file_of part) e)
 write_touches (Ok x) part at bytes d e within h =
@@ -49,7 +49,7 @@ write_touches (Ok x) part at bytes d e within h =
 write_touches (Err why) part at bytes d e within h = (h.others, any_touched h.any)
 
 -- where a write succeeded its bytes follow
-pub write_follows : {T E : Type 0} (r : Result T E) (part : Part) (at : ℕ) (bytes : List ℕ) (d e : Files) → at ≤ length (bytes_of (file_of part) d)
+write_follows : {T E : Type 0} (r : Result T E) (part : Part) (at : ℕ) (bytes : List ℕ) (d e : Files) → at ≤ length (bytes_of (file_of part) d)
     → AfterWrite r (file_of part) at bytes d e → OnOk r (FollowsIn at bytes (bytes_of (file_of part) d) (bytes_of (file_of part) e))
 write_follows (Ok x) part at bytes d e within h =
     let old = bytes_of (file_of part) d in
@@ -63,7 +63,7 @@ write_follows (Ok x) part at bytes d e within h =
 write_follows (Err why) part at bytes d e within h = tt
 
 -- a record behind others
-pub stand_behind : (at : ℕ) (first second d e f : List ℕ) → at ≤ length d → FollowsIn at first d e → FollowsIn (at + length first) second e f
+stand_behind : (at : ℕ) (first second d e f : List ℕ) → at ≤ length d → FollowsIn at first d e → FollowsIn (at + length first) second e f
     → StandBehind at (first ++ second) f
 stand_behind at first second d e f within one two = record {
   front = take at d;

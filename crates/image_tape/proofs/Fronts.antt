@@ -51,12 +51,12 @@ same_records h file other items are same = record {
   bytes = same ∙ are.bytes;
 }
 
-pub bytes_more : (items : List Item) (x : Item) → flat_map record_bytes (items ++ x ∷ []) ≡ flat_map record_bytes items ++ record_bytes x
+bytes_more : (items : List Item) (x : Item) → flat_map record_bytes (items ++ x ∷ []) ≡ flat_map record_bytes items ++ record_bytes x
 bytes_more items x =
     flat_map-append record_bytes items (x ∷ [])
     ∙ ap (λ (l : List ℕ). flat_map record_bytes items ++ l) (append-nil (record_bytes x))
 
-pub size_more : (items : List Item) (x : Item) → length (flat_map record_bytes (items ++ x ∷ [])) ≡ length (flat_map record_bytes items) + width x
+size_more : (items : List Item) (x : Item) → length (flat_map record_bytes (items ++ x ∷ [])) ≡ length (flat_map record_bytes items) + width x
 size_more items x = ap length (bytes_more items x) ∙ length-append (flat_map record_bytes items) (record_bytes x)
 
 -- with one more record behind the others

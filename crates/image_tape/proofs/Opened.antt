@@ -23,13 +23,13 @@ not_blank d size = false_from_ne_true (is_blank d)
     omega (arith, less, size))
 
 -- what the records of a value make
-pub joined_by : (s : SlotValue) (d : Files) (ip dp : List Item) → AreRecords s.ip d.ip ip → AreRecords s.dp d.dp dp
+joined_by : (s : SlotValue) (d : Files) (ip dp : List Item) → AreRecords s.ip d.ip ip → AreRecords s.dp d.dp dp
     → image_by d (Some s) ≡ Ok (cartridge_of s ip dp)
 joined_by s d ip dp in_ip in_dp =
     ap (λ (r : Result (List Item) ℕ). joined s r (items_in s.dp d.dp)) (records_found s.ip d.ip ip in_ip)
     ∙ ap (λ (r : Result (List Item) ℕ). joined s (Ok ip) r) (records_found s.dp d.dp dp in_dp)
 
-pub opens_by : (limits : Limits) (s : SlotValue) (d : Files) (ip dp : List Item) → header limits d.cm ≡ Some s
+opens_by : (limits : Limits) (s : SlotValue) (d : Files) (ip dp : List Item) → header limits d.cm ≡ Some s
     → AreRecords s.ip d.ip ip → AreRecords s.dp d.dp dp → Opens limits d (cartridge_of s ip dp)
 opens_by limits s d ip dp head in_ip in_dp =
     ap (λ (t : Bool). if t then Ok blank else image_by d (header limits d.cm)) (not_blank d (header_only limits d.cm s head).counts.size)
@@ -37,7 +37,7 @@ opens_by limits s d ip dp head in_ip in_dp =
     ∙ joined_by s d ip dp in_ip in_dp
 
 -- the records that count are records of the file
-pub lie_counted : (said reads : Half) (offsets file : List ℕ) (items : List Item) → Lie said reads offsets file items
+lie_counted : (said reads : Half) (offsets file : List ℕ) (items : List Item) → Lie said reads offsets file items
     → AreRecords said file (take said.count items)
 lie_counted said reads offsets file items lie = fewer_records reads said file items lie.records lie.fewer lie.end
 

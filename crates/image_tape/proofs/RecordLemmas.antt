@@ -93,7 +93,7 @@ at_least_head (item.Block bytes) = omega arith
 at_least_head item.Mark = omega arith
 at_least_head item.Torn = omega arith
 
-pub is_head : (x : Item) → IsItem x → IsHead (head_for x)
+is_head : (x : Item) → IsItem x → IsHead (head_for x)
 is_head (item.Block bytes) is = is
 is_head item.Mark is = tt
 is_head item.Torn is = tt
@@ -148,7 +148,7 @@ at_record h items n count lt =
     slice_get-get_or (items ++ tail_of h.torn) n item.Torn (omega (arith, length-append items (tail_of h.torn), count, lt))
     ∙ ap (λ (x : Item). Some x) (get_or_append_left items (tail_of h.torn) item.Torn n (omega (arith, count, lt)))
 
-pub at_torn : (h : Half) (items : List Item) (n : ℕ) → length items ≡ h.count → n ≡ h.count → h.torn ≡ true
+at_torn : (h : Half) (items : List Item) (n : ℕ) → length items ≡ h.count → n ≡ h.count → h.torn ≡ true
     → slice_get (items ++ tail_of h.torn) n ≡ Some item.Torn
 at_torn h items n count is torn =
     ap (λ (t : Bool). slice_get (items ++ tail_of t) n) torn
@@ -159,7 +159,7 @@ tail_size : (t : Bool) → length (tail_of t) ≡ flag t
 tail_size true = refl
 tail_size false = refl
 
-pub at_end : (h : Half) (items : List Item) (n : ℕ) → length items ≡ h.count → h.count + flag h.torn ≤ n → slice_get (items ++ tail_of h.torn) n ≡ None
+at_end : (h : Half) (items : List Item) (n : ℕ) → length items ≡ h.count → h.count + flag h.torn ≤ n → slice_get (items ++ tail_of h.torn) n ≡ None
 at_end h items n count le =
     slice_get_past (items ++ tail_of h.torn) n (omega (arith, length-append items (tail_of h.torn), count, le, tail_size h.torn))
 

@@ -29,7 +29,7 @@ use Rattle.image_tape.proofs.Telling.{held_is_whole, tells_of}
 use Rattle.image_tape.proofs.Wholes.{all_hold, back, lie_like, none_held, referred_stand, settled_taken, untold_held}
 
 -- the first records alone
-pub lie_cut : (said reads : Half) (pos end : ℕ) (offsets file : List ℕ) (items : List Item) → pos < reads.count → end ≡ get_or offsets pos 0
+lie_cut : (said reads : Half) (pos end : ℕ) (offsets file : List ℕ) (items : List Item) → pos < reads.count → end ≡ get_or offsets pos 0
     → Lie said reads offsets file items → Lie (ended pos end false said) (ended pos end false reads) (take pos offsets) file (take pos items)
 lie_cut said reads pos end offsets file items lt is lie =
     let within : pos < length items = omega (arith, lt, lie.records.count) in

@@ -37,14 +37,14 @@ use Rattle.image_tape.proofs.Telling.{tells_of}
 use Rattle.image_tape.proofs.Upkeep.{stands_over, with_slots}
 
 -- the bytes of a value are its serial number and the others
-pub next_is : (limits : Limits) (old : List ℕ) (base value : SlotValue) (serial : ℕ) (rest : List ℕ) → serial_of old ≡ base.serial
+next_is : (limits : Limits) (old : List ℕ) (base value : SlotValue) (serial : ℕ) (rest : List ℕ) → serial_of old ≡ base.serial
     → serial ≡ base.serial + 1 → rest ≡ drop 8 (value_bytes (with_serial serial value)) → slot.next_value old rest ≡ value_bytes (with_serial serial value)
 next_is limits old base value serial rest numbered next is =
     let n : serial_of old + 1 ≡ serial = omega (arith, numbered, next) in
     ap (λ (k : ℕ). to_be_bytes w64 k ++ rest) n ∙ ap (λ (l : List ℕ). to_be_bytes w64 serial ++ l) is
 
 -- a value with another serial number says the same of the partitions
-pub stands_numbered : {limits : Limits} {value reads : SlotValue} {room : Offsets} {leaves : Files → Type 0} {d : Files} (serial : ℕ)
+stands_numbered : {limits : Limits} {value reads : SlotValue} {room : Offsets} {leaves : Files → Type 0} {d : Files} (serial : ℕ)
     → Stands limits value reads room leaves d → Stands limits (with_serial serial value) reads room leaves d
 stands_numbered serial st = record {
   ip = st.ip;
@@ -70,7 +70,7 @@ written_says limits cm value st sized has = header_found limits cm value (record
   dp = st.fits_dp;
 })
 
-pub same_image_by : (s : Option SlotValue) (d e : Files) → e.ip ≡ d.ip → e.dp ≡ d.dp → image_by e s ≡ image_by d s
+same_image_by : (s : Option SlotValue) (d e : Files) → e.ip ≡ d.ip → e.dp ≡ d.dp → image_by e s ≡ image_by d s
 same_image_by None d e ip dp = refl
 same_image_by (Some s) d e ip dp =
     ap (λ (file : List ℕ). joined s (items_in s.ip file) (items_in s.dp e.dp)) ip
@@ -80,7 +80,7 @@ given_of : (r : Result Cartridge Refusal) (c : Cartridge) → r ≡ Ok c → giv
 given_of r c is = ap given is
 
 -- what reads by one of two values
-pub reads_one : (says : Bool) (reads after : SlotValue) (d : Files) (from to : Cartridge) → image_by d (Some reads) ≡ Ok from → image_by d (Some after) ≡ Ok to
+reads_one : (says : Bool) (reads after : SlotValue) (d : Files) (from to : Cartridge) → image_by d (Some reads) ≡ Ok from → image_by d (Some after) ≡ Ok to
     → (given (image_by d (Some (if says then reads else after))) ≡ Some from) ⊎ (given (image_by d (Some (if says then reads else after))) ≡ Some to)
 reads_one true reads after d from to is will = inl (given_of (image_by d (Some reads)) from is)
 reads_one false reads after d from to is will = inr (given_of (image_by d (Some after)) to will)
@@ -335,7 +335,7 @@ module _ {D : Type 0} (disk : Ghosts D) (v : View D) (s : slot.View D) (value re
   }
 
 -- nothing was set
-pub not_set : {D T E : Type 0} (disk : Ghosts D) (v : View D) (value reads : SlotValue) (why : E) → IsKept disk v → v.doubt ≡ Settled
+not_set : {D T E : Type 0} (disk : Ghosts D) (v : View D) (value reads : SlotValue) (why : E) → IsKept disk v → v.doubt ≡ Settled
     → ((d : Files) → disk.held v.slots.disk ≡ Some d → Stands v.room.limits value reads (cut_to reads v.room) (disk.leaves v.slots.disk) d)
     → IsCommit {T = T} disk value reads (Err why) v v
 not_set disk v value reads why kept settled stands = record {
@@ -368,7 +368,7 @@ pub number_of : (limits : Limits) (raw : List ℕ) (s : SlotValue) → header_by
 number_of limits raw s is = number_by limits raw (half_of (slice_range raw 16 104)) (half_of (slice_range raw 104 192)) s is
 
 -- what is true of a value is true of its equal
-pub at_inside : {X : Type 0} (P : X → Type 0) (v w : X) → v ≡ w → P w → P v
+at_inside : {X : Type 0} (P : X → Type 0) (v w : X) → v ≡ w → P w → P v
 at_inside P v w is h = subst P (sym is) h
 
 module _ {D : Type 0} (disk : Ghosts D) (v w : View D) (s : slot.View D) (value value' reads : SlotValue) (serial : ℕ) (bytes rest : List ℕ) (r : Result (Unit {0}) SetErr)

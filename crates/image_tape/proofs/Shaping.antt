@@ -97,7 +97,7 @@ abbrev pub records_of : (part : Part) {limits : Limits} {said reads : SlotValue}
 records_of Ip st = st.ip
 records_of Dp st = st.dp
 
-pub items_are : (part : Part) {limits : Limits} {said reads : SlotValue} {room : Offsets} {leaves : Files → Type 0} {d : Files} (st : Stands limits said reads room leaves d)
+items_are : (part : Part) {limits : Limits} {said reads : SlotValue} {room : Offsets} {leaves : Files → Type 0} {d : Files} (st : Stands limits said reads room leaves d)
     → items_of part (whole st) ≡ records_of part st ++ tail_of (half_of part reads).torn
 items_are Ip st = refl
 items_are Dp st = refl

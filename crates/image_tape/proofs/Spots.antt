@@ -35,7 +35,7 @@ use Rattle.image_tape.proofs.Opened.{whole}
 use Rattle.image_tape.proofs.RecordLemmas.{InPart, at_record, block_read, block_within, head_read, in_part, mark_read, record_at, torn_read}
 use Rattle.image_tape.proofs.Telling.{held_is_whole, tells_of}
 
-pub at_least : (x : Item) → 5 ≤ width x
+at_least : (x : Item) → 5 ≤ width x
 at_least (item.Block bytes) = omega arith
 at_least item.Mark = omega arith
 at_least item.Torn = omega arith
@@ -97,7 +97,7 @@ fits_of : (part : Part) {D : Type 0} (v : View D) → Holds v.room v.reads
 fits_of Ip v holds = holds.fits_ip
 fits_of Dp v holds = holds.fits_dp
 
-pub cap_of : (part : Part) {D : Type 0} (disk : Ghosts D) (v : View D) → IsKept disk v → capacity part v.room.limits ≤ most_positions
+cap_of : (part : Part) {D : Type 0} (disk : Ghosts D) (v : View D) → IsKept disk v → capacity part v.room.limits ≤ most_positions
 cap_of Ip disk v kept = kept.limits.ip_most
 cap_of Dp disk v kept = kept.limits.dp_most
 

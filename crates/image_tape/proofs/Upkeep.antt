@@ -57,7 +57,7 @@ stands_over {said = said} {reads = reads} {room = room} la lb d e st same_ip sam
 }
 
 -- where a crash leaves no more
-pub stands_less : {limits : Limits} {said reads : SlotValue} {room : Offsets} (la lb : Files → Type 0) (d : Files) → Stands limits said reads room la d
+stands_less : {limits : Limits} {said reads : SlotValue} {room : Offsets} (la lb : Files → Type 0) (d : Files) → Stands limits said reads room la d
     → ((left : Files) → lb left → la left) → Stands limits said reads room lb d
 stands_less la lb d st less = stands_over la lb d d st refl refl (λ left is. (left, less left is, refl, refl))
 
@@ -92,7 +92,7 @@ suits_less Settled v s known h = known refl ∙ h
 suits_less (Open after reads) v s known h = h
 
 -- what reads doesn't hang on what is known of the disk
-pub held_over : {D : Type 0} (v : View D) (s : slot.View D) (o : Option Files) → held_by (with_slots s v) o ≡ held_by v o
+held_over : {D : Type 0} (v : View D) (s : slot.View D) (o : Option Files) → held_by (with_slots s v) o ≡ held_by v o
 held_over v s None = refl
 held_over v s (Some d) = refl
 

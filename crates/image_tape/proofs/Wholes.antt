@@ -64,7 +64,7 @@ abbrev offsets_in : Offsets → List ℕ → List ℕ → Offsets
 offsets_in r ip dp = record { limits = r.limits; ip = ip; dp = dp }
 
 -- what reads is cut to itself
-pub cut_all : (room : Offsets) (reads : SlotValue) → Holds room reads → cut_to reads room ≡ room
+cut_all : (room : Offsets) (reads : SlotValue) → Holds room reads → cut_to reads room ≡ room
 cut_all room reads holds =
     ap (λ (l : List ℕ). offsets_in room l (take reads.dp.count room.dp)) (take_all reads.ip.count room.ip (omega (arith, holds.ip)))
     ∙ ap (λ (l : List ℕ). offsets_in room room.ip l) (take_all reads.dp.count room.dp (omega (arith, holds.dp)))

@@ -34,7 +34,7 @@ pub is_few : (size n : ℕ) → 1 ≤ size → div_ceil n size * size < n + size
 is_few size n some = (div_ceil_times n size some).1
 
 -- this many are enough and not too many
-pub is_count : (size n q : ℕ) → 1 ≤ size → n ≤ q * size → q * size < n + size → div_ceil n size ≡ q
+is_count : (size n q : ℕ) → 1 ≤ size → n ≤ q * size → q * size < n + size → div_ceil n size ≡ q
 is_count size n q some enough few = one_count size n (div_ceil n size) q (is_enough size n some) (is_few size n some) enough few
 
 enough_less : (size n m : ℕ) → n ≤ suc m * size → n - size ≤ m * size

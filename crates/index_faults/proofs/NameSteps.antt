@@ -50,7 +50,7 @@ pub record IsKept (nodes : List Node) (seen : BTreeSet Slot) (at : ℕ) : Type 0
   pub knows : Knows (contains slot_cmp seen) (IsTaken nodes at)
 
 -- slots that compare as equal have all parts equal
-pub slot_is : (a b : Slot) → is_at (slot_cmp a) b ≡ true → (a.0 ≡ b.0) × (a.1 ≡ b.1) × (a.2.now ≡ b.2.now)
+slot_is : (a b : Slot) → is_at (slot_cmp a) b ≡ true → (a.0 ≡ b.0) × (a.1 ≡ b.1) × (a.2.now ≡ b.2.now)
 slot_is a b at =
     let both = then_equal (ordering_then (nat_cmp a.0 b.0) (nat_cmp a.1 b.1)) (slice_cmp nat_cmp a.2.now b.2.now) (tied _ at) in
     let front = then_equal (nat_cmp a.0 b.0) (nat_cmp a.1 b.1) both.0 in
@@ -61,7 +61,7 @@ slot_is a b at =
     then_equal Equal p e = (refl, e)
     then_equal Greater p e = absurd (false_true (ap is_eq e))
 
-pub slot_itself : (a b : Slot) → a.0 ≡ b.0 → a.1 ≡ b.1 → a.2.now ≡ b.2.now → is_at (slot_cmp a) b ≡ true
+slot_itself : (a b : Slot) → a.0 ≡ b.0 → a.1 ≡ b.1 → a.2.now ≡ b.2.now → is_at (slot_cmp a) b ≡ true
 slot_itself a b number parent name = rw (number, parent, name, tied_itself nat_cmp_total b.0, tied_itself nat_cmp_total b.1, tied_itself nat_list_cmp_total b.2.now) refl
 
 module _ (nodes : List Node) where

@@ -15,7 +15,7 @@ pub record IsTextAt (from : ℕ) (ends bytes : List ℕ) (at : ℕ) : Type 0 whe
   pub text : IsUtf8 (take (get_or ends at 0 - start from ends at) (drop (start from ends at) bytes))
   pub is : get_or (cut from ends bytes) at [] ≡ take (get_or ends at 0 - start from ends at) (drop (start from ends at) bytes)
 
-pub text_at : (from : ℕ) (ends bytes : List ℕ) (at : ℕ) → AreTexts from ends bytes → at < length ends → IsTextAt from ends bytes at
+text_at : (from : ℕ) (ends bytes : List ℕ) (at : ℕ) → AreTexts from ends bytes → at < length ends → IsTextAt from ends bytes at
 text_at from [] bytes at are lt = absurd (omega arith)
 text_at from (end ∷ ends) bytes zero are lt = record { ordered = are.0; inside = are.1; text = are.2; is = refl }
 text_at from (end ∷ ends) bytes (suc zero) are lt = let r = text_at end ends bytes zero are.3 (omega arith) in record { ordered = r.ordered; inside = r.inside; text = r.text; is = r.is }

@@ -10,7 +10,7 @@ abbrev pub EachFrom : {X : Type 0} → (ℕ → X → Type 0) → ℕ → List X
 EachFrom P at [] = ⊤
 EachFrom P at (x ∷ xs) = P at x × EachFrom P (suc at) xs
 
-pub each_from : {X : Type 0} (P : ℕ → X → Type 0) (from : ℕ) (xs : List X) → EachFrom P from xs → (at : ℕ) (x : X) → IsAt xs at x → P (from + at) x
+each_from : {X : Type 0} (P : ℕ → X → Type 0) (from : ℕ) (xs : List X) → EachFrom P from xs → (at : ℕ) (x : X) → IsAt xs at x → P (from + at) x
 each_from P from [] h at x is = absurd (none-some x is)
 each_from P from (y ∷ ys) h zero x is =
     let e : from ≡ from + 0 = omega arith in

@@ -58,7 +58,7 @@ pub record NoRoot (is : Items) (node : ℕ) (s : State) : Type 0 where
   pub nodes : (items_told place.Index node is s).nodes ≡ s.nodes
   pub children : inside place.Root is ≡ None
 
-pub no_root : (seen : List Tag) (is : Items) (node : ℕ) (s : State) → Fits place.Index seen is → member Directory seen ≡ true → NoRoot is node s
+no_root : (seen : List Tag) (is : Items) (node : ℕ) (s : State) → Fits place.Index seen is → member Directory seen ≡ true → NoRoot is node s
 no_root seen no_items node s fits there = record { nodes = refl; children = refl }
 no_root seen (item i is) node s fits there =
     let other = not_again seen i there (once_only seen i fits.1.once) in

@@ -60,7 +60,7 @@ one_whole text s t x y =
     tell_same y.ps _ _ [] s [] t (subst (λ ps. Tell ps outermost blank [] s) same.pieces x.tells) y.tells
 
 -- a text spells one value, and so one index
-pub one_spelled : (text : List ℕ) (a b : Index) (v w : IndexValue) → Spells text v → Spells text w → Tells a v → Tells b w → a ≡ b
+one_spelled : (text : List ℕ) (a b : Index) (v w : IndexValue) → Spells text v → Spells text w → Tells a v → Tells b w → a ≡ b
 one_spelled text a b v w s t h k =
     let x = spelled_whole text v s in
     let y = spelled_whole text w t in

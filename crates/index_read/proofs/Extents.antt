@@ -125,7 +125,7 @@ extents_told seen (item (nested place.Extent x) is) s front parent f k behind fi
     ∙ ap (nodes_with front parent f behind) (with_next e (extents_in is) k)
 extents_told seen (item (nested _ x) is) s front parent f k behind fits at = absurd (let bad = fits.0.0 in cc)
 
-pub extents_tell : (seen : List Tag) (is : Items) → Fits place.ExtentInfo seen is → TellsExtents is (extents_in is)
+extents_tell : (seen : List Tag) (is : Items) → Fits place.ExtentInfo seen is → TellsExtents is (extents_in is)
 extents_tell seen no_items fits = refl
 extents_tell seen (item (plain t v) is) fits = extents_tell (t ∷ seen) is fits.2
 extents_tell seen (item (bare q) is) fits = extents_tell (tag_of q ∷ seen) is fits.2

@@ -46,7 +46,7 @@ abbrev pub tag_behind : Start → Start
 tag_behind s = record { tag = s.tag; attribute = s.attribute; empty = s.empty; next = suc s.next }
 
 -- the one is read behind the other in the same way
-pub then_alike : {A B : Type 0} (up : A → A) (w : B → B) (r s : Read A) (f g : A → Read B) → Alike up r s → ((x : A) → Alike w (f x) (g (up x))) → Alike w (r >>= f) (s >>= g)
+then_alike : {A B : Type 0} (up : A → A) (w : B → B) (r s : Read A) (f g : A → Read B) → Alike up r s → ((x : A) → Alike w (f x) (g (up x))) → Alike w (r >>= f) (s >>= g)
 then_alike up w (Ok x) (Ok y) f g is more = subst (λ z. Alike w (f x) (g z)) (sym is) (more x)
 then_alike up w (Err d) (Err e) f g is more = tt
 then_alike up w (Ok x) (Err e) f g is more = absurd is
@@ -82,7 +82,7 @@ so_many_more at n = omega arith
 
 -- ---- bytes
 
-pub run_further : (p : ℕ → Bool) (at : ℕ) (bytes : List ℕ) → run_end p (suc at) bytes ≡ suc (run_end p at bytes)
+run_further : (p : ℕ → Bool) (at : ℕ) (bytes : List ℕ) → run_end p (suc at) bytes ≡ suc (run_end p at bytes)
 run_further p at [] = refl
 run_further p at (b ∷ bytes) = elim (p b) as (λ v. cond v (run_end p (suc at + 1) bytes) (suc at) ≡ suc (cond v (run_end p (at + 1) bytes) at)) [
   | true ↦ rw (one_more at) (run_further p (at + 1) bytes)

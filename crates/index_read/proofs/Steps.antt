@@ -44,7 +44,7 @@ leaf_count place.Directory node i s = sym (changed_length node _ s.nodes)
 leaf_count place.File node i s = sym (changed_length node _ s.nodes)
 leaf_count _ node i s = refl
 
-pub told_count : (p : Piece) (l : Level) (s : State) → counted p (length s.nodes) ≡ length (piece_told p l s).nodes
+told_count : (p : Piece) (l : Level) (s : State) → counted p (length s.nodes) ≡ length (piece_told p l s).nodes
 told_count (opens q) l s = begun_count q l.node s
 told_count (whole q) l s = begun_count q l.node s ∙ ended_count q _ (begun q l.node s)
 told_count closes l s = ended_count l.place l.node s

@@ -277,7 +277,7 @@ file_stands f bytes extents = either_way (λ xs. stand place.File [] (file_items
 link_stands : (f : NodeFacts) (bytes : ℕ) (text : List ℕ) → stand place.File [] (file_items f bytes (plain Symlink (words text))) ≡ true
 link_stands f bytes text = either_way (λ xs. stand place.File [] (file_items (record f { xattrs = xs }) bytes (plain Symlink (words text))) ≡ true) refl (λ x xs. refl) f.xattrs
 
-pub nodes_good : (nodes : Nodes) → GoodNodes nodes → GoodItems place.Contents (nodes_items nodes)
+nodes_good : (nodes : Nodes) → GoodNodes nodes → GoodItems place.Contents (nodes_items nodes)
 nodes_good no_nodes h = tt
 nodes_good (directory f inside behind) h = (
   parent_good place.Contents place.Directory (directory_items f (nodes_items inside)) refl refl refl (directory_stands f (nodes_items inside))

@@ -113,7 +113,7 @@ nodes_within v =
     let whole = around (head ++ start_text LtfsIndex Version) (volume_text v.volume ++ directory_text v.root (nodes_text v.inside)) (end_text LtfsIndex) in
     omega arith
 
-pub links_short : (index : Index) (v : IndexValue) → Tells index v → length (canonical v) < 2 ^ 64 → AreLinksShort index.nodes
+links_short : (index : Index) (v : IndexValue) → Tells index v → length (canonical v) < 2 ^ 64 → AreLinksShort index.nodes
 links_short index v tells fits =
     let within = nodes_within v in
     let all : AllByRecursion IsShort (all_nodes v) = (tt, short_nodes 0 1 v.inside (omega arith)) in

@@ -150,7 +150,7 @@ link_tells f bytes text behind = go f.xattrs
 inner_tells : (f : NodeFacts) (inner : Items) (nodes : Nodes) → TellsNodes inner nodes → TellsContents (directory_items f inner) nodes
 inner_tells f inner nodes h = either_way (λ xs. TellsContents (directory_items (record f { xattrs = xs }) inner) nodes) h (λ x xs. h) f.xattrs
 
-pub nodes_tell : (nodes : Nodes) → TellsNodes (nodes_items nodes) nodes
+nodes_tell : (nodes : Nodes) → TellsNodes (nodes_items nodes) nodes
 nodes_tell no_nodes = refl
 nodes_tell (directory f inner behind) = (f, inner, behind, refl, directory_tells f (nodes_items inner), inner_tells f (nodes_items inner) inner (nodes_tell inner), nodes_tell behind)
 nodes_tell (file f bytes extents behind) = (behind, inl (file_tells f bytes extents behind), nodes_tell behind)

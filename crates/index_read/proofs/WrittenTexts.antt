@@ -103,7 +103,7 @@ file_is f bytes extents =
 link_is : (f : NodeFacts) (text : List ℕ) → link_text f text ≡ text_of (nested place.File (file_items f (length text) (plain Symlink (val.words text))))
 link_is f text = file_inner f (length text) (plain Symlink (val.words text))
 
-pub nodes_are : (nodes : Nodes) → nodes_text nodes ≡ texts_of (nodes_items nodes)
+nodes_are : (nodes : Nodes) → nodes_text nodes ≡ texts_of (nodes_items nodes)
 nodes_are no_nodes = refl
 nodes_are (directory f inside behind) = joined (directory_text f (nodes_text inside)) (nodes_text behind) (nested place.Directory (directory_items f (nodes_items inside))) (nodes_items behind) (directory_inner f (nodes_items inside) (nodes_text inside) (nodes_are inside)) (nodes_are behind)
 nodes_are (file f bytes extents behind) = joined (file_text f bytes extents) (nodes_text behind) (nested place.File (file_items f bytes (nested place.ExtentInfo (extents_items extents)))) (nodes_items behind) (file_is f bytes extents) (nodes_are behind)

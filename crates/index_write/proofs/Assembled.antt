@@ -35,7 +35,7 @@ told (Err _) p = p
 pub join : (a b c : List ℕ) → Keeps a b → Keeps b c → Keeps a c
 join a b c k l = (k.0 ++ l.0, l.1 ∙ ap (λ (x : List ℕ). x ++ l.0) k.1 ∙ append_assoc a k.0 l.0)
 
-pub ok2 : (r : Done) (t o a b o1 n : List ℕ) → o1 ≡ o ++ a → a ++ b ≡ t → OnOk r (n ≡ o1 ++ b) → OnOk r (n ≡ o ++ t)
+ok2 : (r : Done) (t o a b o1 n : List ℕ) → o1 ≡ o ++ a → a ++ b ≡ t → OnOk r (n ≡ o1 ++ b) → OnOk r (n ≡ o ++ t)
 ok2 r t o a b o1 n e1 is = ok r (λ e. e ∙ ap (λ (x : List ℕ). x ++ b) e1 ∙ append_assoc o a b ∙ ap (λ (x : List ℕ). o ++ x) is)
 
 -- three texts appended one behind the other make their whole, if the last succeeds
@@ -50,7 +50,7 @@ ok4 r t o a b c d o1 o2 o3 n e1 e2 e3 is = ok3 r t o (a ++ b) c d o2 o3 n (rw (e
 pub ok5 : (r : Done) (t o a b c d e o1 o2 o3 o4 n : List ℕ) → o1 ≡ o ++ a → o2 ≡ o1 ++ b → o3 ≡ o2 ++ c → o4 ≡ o3 ++ d → a ++ b ++ c ++ d ++ e ≡ t → OnOk r (n ≡ o4 ++ e) → OnOk r (n ≡ o ++ t)
 ok5 r t o a b c d e o1 o2 o3 o4 n e1 e2 e3 e4 is = ok4 r t o (a ++ b) c d e o2 o3 o4 n (rw (e2, e1) (append_assoc o a b)) e3 e4 is
 
-pub err2 : (r : Done) (o a o1 n : List ℕ) → o1 ≡ o ++ a → OnErr r (Keeps o1 n) → OnErr r (Keeps o n)
+err2 : (r : Done) (o a o1 n : List ℕ) → o1 ≡ o ++ a → OnErr r (Keeps o1 n) → OnErr r (Keeps o n)
 err2 r o a o1 n e1 = err r (λ k. (a ++ k.0, rw (k.1, e1) (append_assoc o a k.0)))
 
 -- where the last of three texts fails, what stood before is kept

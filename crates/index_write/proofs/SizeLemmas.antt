@@ -23,10 +23,10 @@ use Rattle.index_write.specs.Parts.{spot_text, volume_front, volume_rear}
 use Rattle.index_write.proofs.Assembled.{state_laws}
 use Rattle.index_write.specs.Sizes.{bounded, directory_length, facts_length, node_length, nodes_sum, size}
 
-pub add_bounded : (a b : ℕ) → min (bounded a + b) (2 ^ 64 - 1) ≡ bounded (a + b)
+add_bounded : (a b : ℕ) → min (bounded a + b) (2 ^ 64 - 1) ≡ bounded (a + b)
 add_bounded a b = omega arith
 
-pub add_both : (a b : ℕ) → min (bounded a + bounded b) (2 ^ 64 - 1) ≡ bounded (a + b)
+add_both : (a b : ℕ) → min (bounded a + bounded b) (2 ^ 64 - 1) ≡ bounded (a + b)
 add_both a b = omega arith
 
 more_text : {X : Type 0} (f : X → List ℕ) (xs : List X) (i : ℕ) (d : X) → i < length xs → length (flat_map f (take (i + 1) xs)) ≡ length (flat_map f (take i xs)) + length (f (get_or xs i d))
@@ -59,7 +59,7 @@ one_node_more nodes i node old y new lt it is one e =
 abbrev width : Tag → ℕ
 width tag = length (start_text tag Absent) + length (end_text tag)
 
-pub cat : (a b : List ℕ) (m n : ℕ) → length a ≡ m → length b ≡ n → length (a ++ b) ≡ m + n
+cat : (a b : List ℕ) (m n : ℕ) → length a ≡ m → length b ≡ n → length (a ++ b) ≡ m + n
 cat a b m n x y = length-append a b ∙ ap (λ (k : ℕ). k + length b) x ∙ ap (λ (k : ℕ). m + k) y
 
 enclosed : (s c e : List ℕ) → length (s ++ c ++ e) ≡ length c + (length s + length e)

@@ -26,7 +26,7 @@ pub record Front (nodes : List Node) (at : ℕ) : Type 0 where
   pub is : slice_get nodes at ≡ Some node
   pub rest : drop at nodes ≡ node ∷ drop (at + 1) nodes
 
-pub front : (nodes : List Node) (at : ℕ) (d : Node) → at < length nodes → Front nodes at
+front : (nodes : List Node) (at : ℕ) (d : Node) → at < length nodes → Front nodes at
 front nodes at d lt = record { node = get_or nodes at d; is = slice_get-get_or nodes at d lt; rest = cut nodes at d lt }
 
 -- a directory ends
@@ -93,7 +93,7 @@ parts : (s u n t r a c i ec ed m : List ℕ) → (s ++ (u ++ n ++ t ++ r ++ a ++
 parts s u n t r a c i ec ed m = simp (append_assoc)
 
 -- the text of a directory, which ends behind its children
-pub directory_parts : (f : NodeFacts) (inside more : List ℕ) → directory_text f inside ++ more ≡ opening f ++ (inside ++ (closing ++ more))
+directory_parts : (f : NodeFacts) (inside more : List ℕ) → directory_text f inside ++ more ≡ opening f ++ (inside ++ (closing ++ more))
 unfolding opening traits
 directory_parts f inside more = parts (start_text Directory Absent) (number FileUid f.uid) (name Name f.name) (times f.times) (truth ReadOnly f.readonly) (attributes f.xattrs) (start_text Contents Absent) inside (end_text Contents) (end_text Directory) more
 
@@ -153,7 +153,7 @@ writes_inside nodes at o node xs (link f t b) behind first next up parent depth 
       text_is = append_assoc (node_text (value_in o.dir f (kinds.Link t))) (nodes_text b) (coming_text behind) ∙ ap (λ (n : NodeValue). node_text n ++ (nodes_text b ++ coming_text behind)) (sym same);
     }
 
-pub writes : (nodes : List Node) (at : ℕ) (o : Open) (text : List ℕ) (node : Node) → at < length nodes → node ≡ get_or nodes at node → parent_at nodes at ≡ o.dir → Rests nodes at o text → Writes nodes at o node text
+writes : (nodes : List Node) (at : ℕ) (o : Open) (text : List ℕ) (node : Node) → at < length nodes → node ≡ get_or nodes at node → parent_at nodes at ≡ o.dir → Rests nodes at o text → Writes nodes at o node text
 writes nodes at o text node lt it up r =
     let here : drop at nodes ≡ node ∷ drop (at + 1) nodes = cut nodes at node lt ∙ ap (λ (n : Node). n ∷ drop (at + 1) nodes) (sym it) in
     let first : value_of node ∷ map value_of (drop (at + 1) nodes) ≡ map value_of (drop at nodes) = sym (ap (map value_of) here) in
@@ -175,7 +175,7 @@ finish_inside dir at (directory f i b) behind e = absurd cc
 finish_inside dir at (file f n l b) behind e = absurd cc
 finish_inside dir at (link f t b) behind e = absurd cc
 
-pub finishes : (nodes : List Node) (at : ℕ) (o : Open) (text : List ℕ) → drop at nodes ≡ [] → Rests nodes at o text → text ≡ closings (o.depth + 1)
+finishes : (nodes : List Node) (at : ℕ) (o : Open) (text : List ℕ) → drop at nodes ≡ [] → Rests nodes at o text → text ≡ closings (o.depth + 1)
 finishes nodes at o text none r =
     let count : suc (length r.behind) ≡ o.depth + 1 = omega (arith, r.depth) in
     r.text_is ∙ finish_inside o.dir at r.inside r.behind (sym (ap (map value_of) none) ∙ r.nodes_are) ∙ ap closings count
@@ -185,7 +185,7 @@ pub record Begins (nodes : List Node) (root : Node) (v : IndexValue) : Type 0 wh
   pub front : node_text (value_of root) ≡ opening v.root
   pub rests : Rests nodes 1 (record { dir = 0; depth = 0 }) (nodes_text v.inside ++ closing)
 
-pub begins : (root : Node) (more : List Node) (v : IndexValue) → map value_of (root ∷ more) ≡ all_nodes v → Begins (root ∷ more) root v
+begins : (root : Node) (more : List Node) (v : IndexValue) → map value_of (root ∷ more) ≡ all_nodes v → Begins (root ∷ more) root v
 begins root more v e = record {
   front = ap node_text (head_of _ _ _ _ e);
   rests = record {

@@ -73,7 +73,7 @@ fate_is : (fate : Fate) (here : ℕ) (before : List Event) (call : Option Call) 
 fate_is fates.Done here before call added is = done_is here before call added is
 fate_is fates.Void here before call added is = same_still is no_events
 
-pub submission_is_still : (who here : ℕ) (before : List Event) (call : Option Call) (answer : Submitted)
+submission_is_still : (who here : ℕ) (before : List Event) (call : Option Call) (answer : Submitted)
     (added : List Event) → AreOfSubmit who here before call answer added → AreStill added
 submission_is_still who here before call (submitted.Ready reply) added is =
     fate_is (fate_for reply) here before call added is

@@ -12,7 +12,7 @@ use Rattle.ltfs_label.specs.Reading.{Keeps, Walked, coded, set, value_from}
 use Rattle.ltfs_label.specs.Values.{LabelValue, blank}
 use Rattle.ltfs_label.proofs.Places.{none_begun, reached_top}
 
-pub value_more : (v : LabelValue) (ps : List Piece) (p : Piece) → value_from v (ps ++ p ∷ []) ≡ set p (value_from v ps)
+value_more : (v : LabelValue) (ps : List Piece) (p : Piece) → value_from v (ps ++ p ∷ []) ≡ set p (value_from v ps)
 value_more v [] p = refl
 value_more v (q ∷ ps) p = value_more (set q v) ps p
 

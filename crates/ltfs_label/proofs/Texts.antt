@@ -34,7 +34,7 @@ read_spelled text v valid r =
     let e = elements_of place.Label text r.ps valid r.accepts in
     record { items = e.items; spelled = e.spelled; value = r.value ∙ ap (value_from blank) e.split ∙ value_closed blank (all_pieces e.items) }
 
-pub spelled_read : (text : List ℕ) (v : LabelValue) → LabelText text v → Reads text v
+spelled_read : (text : List ℕ) (v : LabelValue) → LabelText text v → Reads text v
 spelled_read text v t = record {
   ps = all_pieces t.items ++ closes ∷ [];
   accepts = accepted place.Label text t.items t.spelled (few_of text t.items t.spelled);

@@ -39,7 +39,7 @@ use Rattle.ltfs_server.proofs.ServeClauses.{serve_does}
 use Rattle.basic_commands.proofs.Told.{if_some}
 
 -- want of memory blames no cartridge
-pub nothing_blamed : (held : Option Cartridge) → IfSome held (λ c. Blames errors.NoMemory c)
+nothing_blamed : (held : Option Cartridge) → IfSome held (λ c. Blames errors.NoMemory c)
 nothing_blamed held = if_some held (λ c. Blames errors.NoMemory c) (λ c is. tt)
 
 -- a fault of the cartridge blames it, and has no counts

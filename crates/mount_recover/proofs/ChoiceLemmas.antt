@@ -45,7 +45,7 @@ use Rattle.volume_scan.proofs.Told.{lacks_form}
 pub place_is : (l : LastIndex) (k : readings.Construct) (older : List readings.Construct) → place_in (Some l) ≡ newest (k ∷ older) → l.place ≡ places_of k
 place_is l k older is = cc
 
-pub none_newest : (ks : List readings.Construct) → None ≡ newest ks → ks ≡ []
+none_newest : (ks : List readings.Construct) → None ≡ newest ks → ks ≡ []
 none_newest [] is = refl
 none_newest (k ∷ older) is = absurd (cc is)
 
@@ -72,7 +72,7 @@ ends_in pos (InIndex mark blocks) (k ∷ older) (Some l) found end at sound lead
 sound_phase : (items : List Item) → HasForm items → (at : ℕ) → (content items).phase ≢ Bad at
 sound_phase items form at bad = never_both items at form (lacks_form items at bad)
 
-pub ends_ip : (items : List Item) (last : Option LastIndex) (found : Content) (end : ℕ) → IsSeen items found → place_in last ≡ newest (indexes_of items)
+ends_ip : (items : List Item) (last : Option LastIndex) (found : Content) (end : ℕ) → IsSeen items found → place_in last ≡ newest (indexes_of items)
     → IsIpEnd found (standing_of last) end → end ≡ end_ip (content items)
 ends_ip items last found end seen is ends =
     ends_in (content items).pos (content items).phase (content items).constructs last found end (content_placed items).ends (sound_phase items seen.form)
@@ -89,7 +89,7 @@ from_four : (ks : List Construct) (from to : ℕ) → AreBetween from to ks → 
 from_four [] from to b = b
 from_four (k ∷ ks) from to b = omega (arith, b.0, b.1, b.2, from_four ks k.after to b.3)
 
-pub ip_in_range : (capacity : ℕ) (label : Label) (last : Option LastIndex) (found : Content) (end : ℕ) → IsInPlaces capacity found → IfSome last (IsSoundLast label capacity)
+ip_in_range : (capacity : ℕ) (label : Label) (last : Option LastIndex) (found : Content) (end : ℕ) → IsInPlaces capacity found → IfSome last (IsSoundLast label capacity)
     → IsIpEnd found (standing_of last) end → (4 ≤ end) × (end ≤ capacity)
 ip_in_range capacity label None found end places sound ends =
     (omega (arith, ends, from_four found.constructs 4 found.lead places.constructs), omega (arith, ends, places.lead, places.front))
@@ -98,7 +98,7 @@ ip_in_range capacity label (Some l) found end places sound (inl ends) =
 ip_in_range capacity label (Some l) found end places sound (inr ends) =
     (omega (arith, ends.1, from_four found.constructs 4 found.lead places.constructs), omega (arith, ends.1, places.lead, places.front))
 
-pub dp_in_range : (capacity : ℕ) (label : Label) (last : Option LastIndex) (end : ℕ) → 4 ≤ capacity → IfSome last (IsSoundLast label capacity)
+dp_in_range : (capacity : ℕ) (label : Label) (last : Option LastIndex) (end : ℕ) → 4 ≤ capacity → IfSome last (IsSoundLast label capacity)
     → end ≡ dp_ends (standing_of last) → (4 ≤ end) × (end ≤ capacity) × IfSome (standing_of last) (λ s. s.place.first < end)
 dp_in_range capacity label None end least sound ends = (omega (arith, ends), omega (arith, ends, least), tt)
 dp_in_range capacity label (Some l) end least sound ends = (
@@ -184,7 +184,7 @@ sound_index label (Some i) (Some d) capacity other index ip dp is = either (nat_
     either true e = let same : i.index ≡ index = cc e in subst (IsSound label) same ip.index
     either false e = let same : d.index ≡ index = cc e in subst (IsSound label) same dp.index
 
-pub sound_choice : (label : Label) (ends : Ends) (lasts : Lasts) (choice : Choice) (limits : Limits) → IsChosen lasts choice → choice.ends ≡ ends
+sound_choice : (label : Label) (ends : Ends) (lasts : Lasts) (choice : Choice) (limits : Limits) → IsChosen lasts choice → choice.ends ≡ ends
     → AllByRecursion (FitsNode label choice.ends.ip choice.ends.dp) choice.index.nodes → AreEndsWithin limits (standing_of (dp_in lasts)) ends
     → AreSoundLasts label limits lasts → IsSoundChoice label limits choice
 sound_choice label ends lasts choice limits is same fits within sound = record {

@@ -185,7 +185,7 @@ one_within : (newer : List readings.Construct) (k : readings.Construct) (older :
 one_within [] k older ordered = omega arith
 one_within (q ∷ newer) k older ordered = omega (arith, one_within newer k older ordered.2, ordered.1)
 
-pub index_within : (items : List Item) (place : Construct) → HasIndexAt items place → place.first ≤ length items
+index_within : (items : List Item) (place : Construct) → HasIndexAt items place → place.first ≤ length items
 index_within items place known =
     let ordered = subst AreOrdered known.parts (content_placed items).ordered in
     let ends : end_dp (known.newer ++ known.k ∷ known.older) ≤ length (front items) =

@@ -58,7 +58,7 @@ past (x ∷ items) zero is = absurd (cc is)
 past (x ∷ items) (suc count) is = omega (arith, past items count is)
 
 -- a read behind the front finds the end exactly where nothing stands there
-pub at_front : (items : List Item) (count : ℕ) (x : Option Item) (answer : Got) (buf : List ℕ) → slice_get items count ≡ x → IsRead x answer buf
+at_front : (items : List Item) (count : ℕ) (x : Option Item) (answer : Got) (buf : List ℕ) → slice_get items count ≡ x → IsRead x answer buf
     → count ≡ length (front items) → (answer ≡ got.End) ↔ (length items ≡ count)
 at_front items count None answer buf at read is = ((λ end. omega (arith, past items count at, is, front_within items)), λ all. read.0)
 at_front items count (Some x) answer buf at read is =

@@ -280,12 +280,12 @@ known_ip c labels s on_dp older place scan dp split =
     let n = newest_of c.ip s.ip older place scan.ip split in
     record { forms = forms_of c labels s scan; newest = n.0; dps_are = scan.dp.constructs; dp_last = dp.index }
 
-pub no_dp : (c : Cartridge) (labels : Labels) (s : Scans) → IsScan labels s c → length s.dp.constructs ≡ 0 → IsLastDp labels.ip None c
+no_dp : (c : Cartridge) (labels : Labels) (s : Scans) → IsScan labels s c → length s.dp.constructs ≡ 0 → IsLastDp labels.ip None c
 no_dp c labels s scan none =
     let are = none_left (indexes_of c.dp) s.dp.constructs scan.dp.constructs none in
     record { index = subst (λ (ks : List readings.Construct). IsLastOnDp labels.ip ks None) (sym are) refl; place = sym (ap newest are) }
 
-pub no_ip : (c : Cartridge) (labels : Labels) (s : Scans) (on_dp : Option Index) → IsScan labels s c → length s.ip.constructs ≡ 0 → IsLastIp labels.ip on_dp None c
+no_ip : (c : Cartridge) (labels : Labels) (s : Scans) (on_dp : Option Index) → IsScan labels s c → length s.ip.constructs ≡ 0 → IsLastIp labels.ip on_dp None c
 no_ip c labels s on_dp scan none =
     let are = none_left (indexes_of c.ip) s.ip.constructs scan.ip.constructs none in
     record {

@@ -286,7 +286,7 @@ module _ (c : Cartridge) (labels : Labels) (lasts : Lasts) (choice : Choice) (d 
 
 -- ---- the steps of a mount
 
-pub fails_blames : (c : Cartridge) (e : MountErr) → Fails c e → Blames e c
+fails_blames : (c : Cartridge) (e : MountErr) → Fails c e → Blames e c
 fails_blames c (errors.Vol1 part) fails = fails
 fails_blames c (errors.Label part) fails = fails
 fails_blames c errors.LabelsDiffer fails = fails

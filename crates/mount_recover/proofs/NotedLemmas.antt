@@ -147,7 +147,7 @@ noted_dp c label note document text place (Some l) same some all told ends =
     )
 
 -- an index that was read is a last one found by its note
-pub noted_last : (label : Label) (part : Part) (letter capacity : ℕ) (note : Coherency) (text before after : List ℕ) (e : Ending) (found : Option LastIndex)
+noted_last : (label : Label) (part : Part) (letter capacity : ℕ) (note : Coherency) (text before after : List ℕ) (e : Ending) (found : Option LastIndex)
     → letter ≡ letter_of label part → 5 ≤ note.block
     → IfSome found (λ l. (l.place ≡ e.place) × IsNotedText text label letter note e.place l.index)
     → IsEnding capacity (note.block - 1) before after e → IfSome found (IsNotedLast label part note capacity)

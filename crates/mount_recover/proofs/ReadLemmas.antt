@@ -74,7 +74,7 @@ same_block items pos a b x y = let both : ◌≡◌ {A = Option Item} (Some (Blo
 pub no_record : (items : List Item) (buf : List ℕ) → IsMarkedBlock items 0 buf → ((v : Vol1) → IsRecord buf v → ⊥) → HasSomeRecord items → ⊥
 no_record items buf m none (v, h) = none v (subst (λ (b : List ℕ). IsRecord b v) (same_block items 0 h.bytes buf h.stands.block m.block) h.spelled)
 
-pub no_label : (items : List Item) (buf : List ℕ) → IsMarkedBlock items 2 buf → ((v : LabelValue) → LabelText buf v → ⊥) → HasSomeLabel items → ⊥
+no_label : (items : List Item) (buf : List ℕ) → IsMarkedBlock items 2 buf → ((v : LabelValue) → LabelText buf v → ⊥) → HasSomeLabel items → ⊥
 no_label items buf m none (v, h) = none v (subst (λ (b : List ℕ). LabelText b v) (same_block items 2 h.bytes buf h.stands.block m.block) h.spelled)
 
 -- a refusal of another cause is none of a label's text

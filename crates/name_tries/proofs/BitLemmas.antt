@@ -110,7 +110,7 @@ bits_tell (Some x) (Some y) o_byte p_byte same = ap (λ n. Some n) (same_byte x 
 -- ---- names that have the same bytes
 
 -- names of which each byte up to the end of one is the same, and none follows, are one
-pub same_name : (x y : Name) (n : ℕ) → n ≡ length x → ((k : ℕ) → k ≤ n → slice_get x k ≡ slice_get y k) → x ≡ y
+same_name : (x y : Name) (n : ℕ) → n ≡ length x → ((k : ℕ) → k ≤ n → slice_get x k ≡ slice_get y k) → x ≡ y
 same_name [] [] n is same = refl
 same_name [] (c ∷ y) n is same = let wrong : None ≡ Some c = same 0 (omega arith) in cc
 same_name (b ∷ x) [] n is same = let wrong : Some b ≡ None = same 0 (omega arith) in cc
@@ -120,7 +120,7 @@ same_name (b ∷ x) (c ∷ y) n is same =
     cc
 
 -- bits at bytes before one, and before one of its own bits
-pub alike_at : (x y : Name) (byte within : ℕ) → ((k : ℕ) → k < byte → slice_get x k ≡ slice_get y k)
+alike_at : (x y : Name) (byte within : ℕ) → ((k : ℕ) → k < byte → slice_get x k ≡ slice_get y k)
     → ((w : ℕ) → w < within → bit_of x byte w ≡ bit_of y byte w) → within < 9 → AreAlike (level byte within) x y
 alike_at x y byte within bytes bits lt b w nine below = elim (cases_eq b byte) [
   | inl e ↦ subst (λ (n : ℕ). bit_of x n w ≡ bit_of y n w) (sym e) (bits w (omega arith))

@@ -118,7 +118,7 @@ pub record IsCutWay (tries : Tries) (keys : Keys) (w : AreTries tries keys) (dir
   pub to : IsWayToLast tries.forks.items trie x last
   pub shown : Shows tries.forks.items (branch.Inner root) trie
 
-pub cut_way : (tries : Tries) (keys : Keys) (w : AreTries tries keys) (dir : ℕ) (x : Name) (last : Last) (root : ℕ)
+cut_way : (tries : Tries) (keys : Keys) (w : AreTries tries keys) (dir : ℕ) (x : Name) (last : Last) (root : ℕ)
     (forks : List Fork) → forks ≡ tries.forks.items → slice_get tries.roots.items dir ≡ Some (Some (branch.Inner root))
     → ((t : Trie) → IsAt forks (branch.Inner root) t → IsWayToLast forks t x last) → IsCutWay tries keys w dir x last root
 cut_way tries keys w dir x last root forks same there to =

@@ -22,7 +22,7 @@ abbrev pub side_trie : Bool → Trie → Trie → Trie
 side_trie v l r = if v then r else l
 
 -- a side that leads to no fork is a number
-pub side_leaf : (forks : List Fork) (at : Branch) (u : Trie) → inner_at at ≡ None → Shows forks at u → (m : ℕ) × (u ≡ leaf m)
+side_leaf : (forks : List Fork) (at : Branch) (u : Trie) → inner_at at ≡ None → Shows forks at u → (m : ℕ) × (u ≡ leaf m)
 side_leaf forks at (leaf m) none shown = (m, refl)
 side_leaf forks at (inner b w f l r) none shown = absurd (none_not (inner_at at) f none (ap inner_at shown.0))
 

@@ -292,7 +292,7 @@ module _ (roots : List (Option Branch)) (forks : List Fork) (owned owners : List
 
 -- ---- a side is linked to another part
 
-pub last_some : (step : Step) (steps : List Step) → (s : Side) × (last_side (side_of step) steps ≡ Some s)
+last_some : (step : Step) (steps : List Step) → (s : Side) × (last_side (side_of step) steps ≡ Some s)
 last_some (Step.on_zero b w f r) [] = (side f false, refl)
 last_some (Step.on_one b w f l) [] = (side f true, refl)
 last_some step (next ∷ steps) = last_some next steps

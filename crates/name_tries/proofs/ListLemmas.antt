@@ -68,7 +68,7 @@ unfolding IsDistinct
 distinct [] d = tt
 distinct (x ∷ xs) d = (unlike x xs d.0, distinct xs d.1)
 
-pub few : (forks : List Fork) (at : Branch) (t : Trie) → AreOnce t → Shows forks at t → length (numbers_in t) ≤ length forks + 1
+few : (forks : List Fork) (at : Branch) (t : Trie) → AreOnce t → Shows forks at t → length (numbers_in t) ≤ length forks + 1
 few forks at t once shown =
     let most = length-le_from_distinct_below (forks_in t) (length forks) (distinct (forks_in t) (forks_differ t once))
     (λ q here. fork_at forks t at q shown (fork_listed t q (is_in q (forks_in t) here))) in
@@ -210,7 +210,7 @@ module _ (forks : List Fork) (t : Trie) (numbers : List ℕ) (opened front : Lis
         length-append front (at ∷ []),
       )
 
-pub over_ends : (forks : List Fork) (t : Trie) (numbers : List ℕ) (opened : List Branch) → IsOver forks t numbers opened → opened ≡ [] → numbers ≡ numbers_in t
+over_ends : (forks : List Fork) (t : Trie) (numbers : List ℕ) (opened : List Branch) → IsOver forks t numbers opened → opened ≡ [] → numbers ≡ numbers_in t
 over_ends forks t numbers opened o none = by o.tries (subst (λ l. AreShown forks l o.tries) none o.are) o.all
   where
     by : (ts : List Trie) → AreShown forks [] ts → numbers ++ rest_of ts ≡ numbers_in t → numbers ≡ numbers_in t

@@ -99,7 +99,7 @@ left_less forks at next f k (inner b w g l r) goes there lt above shown =
     omega (arith, now, was, lt, rise, above)
 
 -- a fork that isn't before a level stands at the front of what begins behind it
-pub from_level : (forks : List Fork) (part : Trie) (at : Branch) (f : ℕ) (k : Fork) (p : ℕ) → IsAt forks at part → inner_at at ≡ Some f
+from_level : (forks : List Fork) (part : Trie) (at : Branch) (f : ℕ) (k : Fork) (p : ℕ) → IsAt forks at part → inner_at at ≡ Some f
     → slice_get forks f ≡ Some k → IsFrom p part → p ≤ level k.byte k.within
 from_level forks (leaf m) at f k p is goes there le = absurd (none_not (inner_at at) f (ap inner_at is.1) goes)
 from_level forks (inner b w g l r) at f k p is goes there le =
@@ -140,7 +140,7 @@ way_goes_on forks at next x t f k on goes there is =
     behind p (inner b w g l r) above = omega (arith, above)
 
 -- the name leads to the same number from there
-pub same_nearest : (forks : List Fork) (at : Branch) (x : Name) (t : Trie) (on : IsTowards forks at x t) → nearest_in x on.part ≡ nearest_in x t
+same_nearest : (forks : List Fork) (at : Branch) (x : Name) (t : Trie) (on : IsTowards forks at x t) → nearest_in x on.part ≡ nearest_in x t
 same_nearest forks at x t on = sym (nearest_part x on.p on.steps on.part on.taken) ∙ sym (ap (nearest_in x) on.whole)
 
 -- past one fork the name leads to the same number, and fewer levels are left
@@ -170,7 +170,7 @@ way_ends forks at x t n on is = ends on.part on.is.1 ∙ same_nearest forks at x
 
 -- ---- up to a level
 
-pub up_begins : (forks : List Fork) (root : Branch) (x : Name) (p : ℕ) (t : Trie) → IsAt forks root t
+up_begins : (forks : List Fork) (root : Branch) (x : Name) (p : ℕ) (t : Trie) → IsAt forks root t
     → IsWay forks t x p (record { side = None; below = root })
 up_begins forks root x p t is = record { steps = []; part = t; is = refl; taken = tt; side = refl; rises = is.0; shown = is.1 }
 
@@ -282,7 +282,7 @@ side_taken forks t x last w = at (bit_of x w.byte w.within) refl
         }
 
 -- the way past one fork more
-pub down_goes_on : (forks : List Fork) (t : Trie) (x : Name) (last : Last) (next : Way) (f : ℕ) (k : Fork)
+down_goes_on : (forks : List Fork) (t : Trie) (x : Name) (last : Last) (next : Way) (f : ℕ) (k : Fork)
     → IsWayToLast forks t x last → inner_at last.below ≡ Some f → slice_get forks f ≡ Some k
     → next ≡ past f (bit_of x k.byte k.within) k → IsWayToLast forks t x (record { above = last.side; side = next.side; below = next.below })
 down_goes_on forks t x last next f k w goes there past_is = on s.next s.is s.at s.above

@@ -67,7 +67,7 @@ less_at (a ∷ x) (c ∷ y) (suc b) same less =
     ∙ less_at x y b (λ k lt. same (suc k) (omega arith)) less
 
 -- of two names that part at a bit, the one that has a 0 there comes first
-pub names_less : (x y : Name) (b w : ℕ) → AreBytes x → AreBytes y → w < 9 → AreAlike (level b w) x y
+names_less : (x y : Name) (b w : ℕ) → AreBytes x → AreBytes y → w < 9 → AreAlike (level b w) x y
     → bit_of x b w ≡ false → bit_of y b w ≡ true → slice_cmp nat_cmp x y ≡ Less
 names_less x y b w x_bytes y_bytes nine alike even odd =
     less_at x y b

@@ -41,7 +41,7 @@ nearest_bit_at : (name : ℕ → Name) (x : Name) (b w f : ℕ) (l r : Trie) (v 
 nearest_bit_at name x b w f l r true parts = parts.1 (nearest_in x r) (nearest_has x r)
 nearest_bit_at name x b w f l r false parts = parts.0 (nearest_in x l) (nearest_has x l)
 
-pub nearest_bit : (name : ℕ → Name) (x : Name) (b w f : ℕ) (l r : Trie) → Parts name (inner b w f l r)
+nearest_bit : (name : ℕ → Name) (x : Name) (b w f : ℕ) (l r : Trie) → Parts name (inner b w f l r)
     → bit_of (name (nearest_in x (inner b w f l r))) b w ≡ bit_of x b w
 nearest_bit name x b w f l r parts = nearest_bit_at name x b w f l r (bit_of x b w) parts
 
@@ -61,7 +61,7 @@ parts_same name other (inner b w f l r) same parts = (
 -- ---- a new name beside a trie
 
 -- behind a level at which the names of a trie don't part yet, they are the same up to it
-pub alike_above : (name : ℕ → Name) (p : ℕ) (s : Trie) (n m : ℕ) → IsAbove p s → Parts name s → HasLeaf n s → HasLeaf m s
+alike_above : (name : ℕ → Name) (p : ℕ) (s : Trie) (n m : ℕ) → IsAbove p s → Parts name s → HasLeaf n s → HasLeaf m s
     → AreAlike (p + 1) (name n) (name m)
 alike_above name p (leaf k) n m above parts one other =
     subst (λ (i : ℕ). AreAlike (p + 1) (name n) (name i)) (one ∙ sym other) (alike_self (p + 1) (name n))

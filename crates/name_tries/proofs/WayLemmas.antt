@@ -152,7 +152,7 @@ module _ (P : ℕ → Type 0) (s next : Trie) where
 
 -- ---- parts of it
 
-pub rises_part : (steps : List Step) (s : Trie) → Rises (whole_of steps s) → Rises s
+rises_part : (steps : List Step) (s : Trie) → Rises (whole_of steps s) → Rises s
 rises_part [] s rises = rises
 rises_part (on_zero b w f r ∷ steps) s rises = rises_part steps s rises.3
 rises_part (on_one b w f l ∷ steps) s rises = rises_part steps s rises.4

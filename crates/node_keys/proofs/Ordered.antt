@@ -44,7 +44,7 @@ from_below key [] all = tt
 from_below key (x ∷ xs) all = (less _ (first _ _ all), from_below key xs (second _ _ all))
 
 -- the two ways to say that keys ascend
-pub to_sorted : (xs : List Xattr) → IsAscending xs → T (fin.is_sorted key_cmp (entries_of xs))
+to_sorted : (xs : List Xattr) → IsAscending xs → T (fin.is_sorted key_cmp (entries_of xs))
 unfolding IsStrictlySortedBy
 to_sorted [] up = tt
 to_sorted (x ∷ xs) up = both _ _ (below x.key xs up.0) (to_sorted xs up.1)

@@ -90,7 +90,7 @@ carried xs ys moved apart key value is =
     let one = found_one xs key value is in
     subst (λ k. fin.find key_cmp k (entries_of ys) ≡ Some value) one.2 (one_found ys one.0 apart (Contains-permutation xs ys one.0 moved one.1) ∙ ap (λ v. Some v) one.3)
 
-pub same_found : (xs ys : List Xattr) → IsPermutation xs ys → AreKeysApart xs → (key : List ℕ) → fin.find key_cmp key (entries_of xs) ≡ fin.find key_cmp key (entries_of ys)
+same_found : (xs ys : List Xattr) → IsPermutation xs ys → AreKeysApart xs → (key : List ℕ) → fin.find key_cmp key (entries_of xs) ≡ fin.find key_cmp key (entries_of ys)
 same_found xs ys moved apart key = cases (fin.find key_cmp key (entries_of xs)) (fin.find key_cmp key (entries_of ys)) refl refl
   where
     cases : (a b : Option (List ℕ)) → fin.find key_cmp key (entries_of xs) ≡ a → fin.find key_cmp key (entries_of ys) ≡ b → fin.find key_cmp key (entries_of xs) ≡ fin.find key_cmp key (entries_of ys)

@@ -27,7 +27,7 @@ filter_map_agree : {X Y : Type 0} (f g : X → Option Y) → ((x : X) → f x �
 filter_map_agree f g same [] = refl
 filter_map_agree f g same (x ∷ xs) = ap (λ o. cons_option o (filter_map f xs)) (same x) ∙ ap (λ l. cons_option (g x) l) (filter_map_agree f g same xs)
 
-pub synced_places_are : (replies : List (Option Reply)) → synced_places replies ≡ picked is_synced 0 replies
+synced_places_are : (replies : List (Option Reply)) → synced_places replies ≡ picked is_synced 0 replies
 synced_places_are replies =
     filter_map_agree _ (λ e. cond (is_synced e.1) (Some e.0) None) (λ e. ⊎_elim (λ is. rw is refl) (λ is. rw is refl) (cases_Bool (is_synced e.1))) (enumerate_from 0 replies)
 
@@ -44,7 +44,7 @@ synced_at reply = passes is_synced reply
 pub has_synced_place : (replies : List (Option Reply)) (k : ℕ) → has k (synced_places replies) ≡ synced_at (slice_get replies k)
 has_synced_place replies k = ap (has k) (synced_places_are replies) ∙ has_picked is_synced replies k
 
-pub places_rise : (replies : List (Option Reply)) → is_rising (synced_places replies) ≡ true
+places_rise : (replies : List (Option Reply)) → is_rising (synced_places replies) ≡ true
 places_rise replies = subst (λ l. is_rising l ≡ true) (sym (synced_places_are replies)) (picked_rise is_synced 0 replies)
 
 -- a place is among those that events answer just if one of them answers it

@@ -101,7 +101,7 @@ or_false : (a b : Bool) → b ≡ false → (a || b) ≡ a
 or_false true b e = refl
 or_false false b e = e
 
-pub own_wants : (st : State) (e : Event) (here k : ℕ) → (here == k) ≡ false → is_own here e ≡ true → list_any (wants_it k) (after st e).requests ≡ list_any (wants_it k) st.requests
+own_wants : (st : State) (e : Event) (here k : ℕ) → (here == k) ≡ false → is_own here e ≡ true → list_any (wants_it k) (after st e).requests ≡ list_any (wants_it k) st.requests
 own_wants st (Wants ticket place) here k other is =
     let last : Request = record { ticket = ticket; place = place; arrival = st.arrived } in
     list_any-append (wants_it k) st.requests (last ∷ []) ∙ or_false (list_any (wants_it k) st.requests) ((ticket == k) || false) (ap (λ b. b || false) (differs here k ticket other is))
@@ -113,7 +113,7 @@ own_wants st (Rests who) here k other is = absurd (cc)
 own_wants st (Served ticket place fault) here k other is = absurd (cc)
 own_wants st (Worked place fault) here k other is = absurd (cc)
 
-pub own_syncs : (st : State) (e : Event) (here k : ℕ) → (here == k) ≡ false → is_own here e ≡ true → list_any (syncs_it k) (after st e).syncs ≡ list_any (syncs_it k) st.syncs
+own_syncs : (st : State) (e : Event) (here k : ℕ) → (here == k) ≡ false → is_own here e ≡ true → list_any (syncs_it k) (after st e).syncs ≡ list_any (syncs_it k) st.syncs
 own_syncs st (Wants ticket place) here k other is = refl
 own_syncs st (Queues place) here k other is = refl
 own_syncs st (Syncs ticket) here k other is =

@@ -89,7 +89,7 @@ any_filter_same p q (x ∷ xs) w = by (q x) (p x) refl refl (any_filter_same p q
 
 -- ---- what stands behind the first that passes
 
-pub after_first-here : {X : Type 0} (p : X → Bool) (x : X) (xs : List X) → p x ≡ true → after_first p (x ∷ xs) ≡ xs
+after_first-here : {X : Type 0} (p : X → Bool) (x : X) (xs : List X) → p x ≡ true → after_first p (x ∷ xs) ≡ xs
 after_first-here p x xs is = ap (λ (b : Bool). drop (cond (not b) (1 + Rattle.std.specs.List.prefix_len (λ y. not (p y)) xs) 0 + 1) (x ∷ xs)) is
 
 -- where the first doesn't pass, what comes after the first that passes lies in the rest

@@ -47,7 +47,7 @@ phase_more who w marks kinds = ap (fold after idle) (kinds_more who w marks kind
 pub places_more : (who w : ℕ) (marks : List Mark) (kinds : List MarkKind) → places_of w (marks ++ map (mark who) kinds) ≡ places_of w marks ++ filter_map place_in (cond (who == w) kinds [])
 places_more who w marks kinds = ap (filter_map place_in) (kinds_more who w marks kinds) ∙ filter_map-append place_in (kinds_of w marks) (cond (who == w) kinds [])
 
-pub hands_more : (who w : ℕ) (marks : List Mark) (kinds : List MarkKind) → hands_of w (marks ++ map (mark who) kinds) ≡ hands_of w marks ++ filter_map hand_in (cond (who == w) kinds [])
+hands_more : (who w : ℕ) (marks : List Mark) (kinds : List MarkKind) → hands_of w (marks ++ map (mark who) kinds) ≡ hands_of w marks ++ filter_map hand_in (cond (who == w) kinds [])
 hands_more who w marks kinds = ap (filter_map hand_in) (kinds_more who w marks kinds) ∙ filter_map-append hand_in (kinds_of w marks) (cond (who == w) kinds [])
 
 -- ---- who drains

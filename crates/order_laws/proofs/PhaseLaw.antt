@@ -155,7 +155,7 @@ begun_drains kinds course b =
 
 -- ---- phases
 
-pub plain_phases : (who : ℕ) (marks : List Mark) → is_course (kinds_of who marks) ≡ true → is_rising (places_of who marks) ≡ true → ArePlain who marks
+plain_phases : (who : ℕ) (marks : List Mark) → is_course (kinds_of who marks) ≡ true → is_rising (places_of who marks) ≡ true → ArePlain who marks
 plain_phases who marks course rising = record {
   waits_for = λ place. (pending place, waiting place);
   drains = (

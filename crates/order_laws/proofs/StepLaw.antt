@@ -37,7 +37,7 @@ use Rattle.order_laws.proofs.Turning.{all_turn, drains_are_kept, drains_of, no_s
 use Rattle.order_laws.proofs.Views.{not_before}
 use Rattle.order_laws.proofs.Waits.{AreTurned, At, at, not_yet, past, still_past, there, waiting_turn}
 
-pub turning_syncs : (events : List Event) → list_all is_turning events ≡ true → filter_map syncs_ticket events ≡ []
+turning_syncs : (events : List Event) → list_all is_turning events ≡ true → filter_map syncs_ticket events ≡ []
 turning_syncs [] every = refl
 turning_syncs (Synced ticket ∷ events) every = turning_syncs events every
 turning_syncs (Served ticket place fault ∷ events) every = turning_syncs events every

@@ -29,7 +29,7 @@ lower : (a b c : ℕ) (later : List Twin) → a ≤ b → AreRises b c later →
 lower a b c [] le h = omega (arith, le, h)
 lower a b c (t ∷ later) le h = (omega (arith, le, h.0), h.1, h.2)
 
-pub rises_more : (a b c : ℕ) (xs ys : List Twin) → AreRises a b xs → AreRises b c ys → AreRises a c (xs ++ ys)
+rises_more : (a b c : ℕ) (xs ys : List Twin) → AreRises a b xs → AreRises b c ys → AreRises a c (xs ++ ys)
 rises_more a b c [] ys first then = lower a b c ys first then
 rises_more a b c (t ∷ xs) ys first then = (first.0, first.1, rises_more t.after b c xs ys first.2 then)
 
@@ -69,7 +69,7 @@ pub record AreTold (st : State) (added : List Event) (history : List Placed) (ol
   pub replied : (k : ℕ) (reply : Option Reply) → slice_get old k ≡ Some None → slice_get new k ≡ Some reply → option_to_list (told reply) ≡ owned_from st (of_call k) added
   pub done : (k : ℕ) (p : Placed) → slice_get history k ≡ Some p → slice_get old k ≡ Some None → p.fate ≡ fates.Done
 
-pub calls_told : (events added : List Event) (history : List Placed) (old new : List (Option Reply)) → AreTold (after_all events) added history old new
+calls_told : (events added : List Event) (history : List Placed) (old new : List (Option Reply)) → AreTold (after_all events) added history old new
     → ((k : ℕ) → told_at history old k ≡ owned_by (of_call k) events) → (k : ℕ) → told_at history new k ≡ owned_by (of_call k) (events ++ added)
 calls_told events added history old new turned were k = by (at old k) ∙ sym (owned_more (of_call k) events added)
   where
@@ -105,7 +105,7 @@ told_to_same who (p ∷ history) (a ∷ old) (b ∷ new) count each =
     ap (λ o. cons_option (cond (p.who == who) o None) (told_to history new who)) (none_void p.fate b a (each 0 p a b refl refl refl))
     ∙ ap (λ l. cons_option (cond (p.who == who) (told_void p.fate a) None) l) (told_to_same who history old new (omega (arith, count)) (λ k q c d h o n. each (suc k) q c d h o n))
 
-pub sessions_told : (events added : List Event) (history : List Placed) (old new : List (Option Reply)) (kept : List (ℕ × Twin)) → AreTold (after_all events) added history old new
+sessions_told : (events added : List Event) (history : List Placed) (old new : List (Option Reply)) (kept : List (ℕ × Twin)) → AreTold (after_all events) added history old new
     → ((who : ℕ) → told_to history old who ++ kept_for who kept ≡ owned_by (of_session who) events)
     → (who : ℕ) → told_to history new who ++ kept_for who (kept ++ drain_faults_from (after_all events) added) ≡ owned_by (of_session who) (events ++ added)
 sessions_told events added history old new kept turned were who =
@@ -141,13 +141,13 @@ get_push f [] x (suc k) none = refl
 get_push f (a ∷ xs) x zero none = refl
 get_push f (a ∷ xs) x (suc k) none = get_push f xs x k none
 
-pub told_at_push : (history : List Placed) (replies : List (Option Reply)) (p : Placed) (reply : Option Reply) (k : ℕ) → length replies ≡ length history → told_done p.fate reply ≡ None
+told_at_push : (history : List Placed) (replies : List (Option Reply)) (p : Placed) (reply : Option Reply) (k : ℕ) → length replies ≡ length history → told_done p.fate reply ≡ None
     → told_at (history ++ p ∷ []) (replies ++ reply ∷ []) k ≡ told_at history replies k
 told_at_push history replies p reply k count none =
     ap (λ l. option_to_list (option_and_then (λ e. told_done e.0.fate e.1) (slice_get l k))) (zip-push history replies p reply count)
     ∙ ap option_to_list (get_push (λ e. told_done e.0.fate e.1) (zip history replies) (p, reply) k none)
 
-pub told_to_push : (history : List Placed) (replies : List (Option Reply)) (p : Placed) (reply : Option Reply) (who : ℕ) → length replies ≡ length history
+told_to_push : (history : List Placed) (replies : List (Option Reply)) (p : Placed) (reply : Option Reply) (who : ℕ) → length replies ≡ length history
     → told_to (history ++ p ∷ []) (replies ++ reply ∷ []) who ≡ told_to history replies who ++ cons_option (cond (p.who == who) (told_void p.fate reply) None) []
 told_to_push history replies p reply who count =
     ap (filter_map (λ e. cond (e.0.who == who) (told_void e.0.fate e.1) None)) (zip-push history replies p reply count)

@@ -24,7 +24,7 @@ at xs k = by (slice_get xs k) refl
     by (Some None) e = not_yet e
     by (Some (Some reply)) e = there reply e
 
-pub none_from : (o : Option Reply) → not (is_some o) ≡ true → o ≡ None
+none_from : (o : Option Reply) → not (is_some o) ≡ true → o ≡ None
 none_from None e = refl
 none_from (Some reply) e = absurd (cc)
 

@@ -60,7 +60,7 @@ stands (p ∷ ps) text e = elim (cases_eq p 42) [
       passes_one p ps text other (stands ps) (rw test at e)
 ]
 
-pub stands_only : (ps text : List ℕ) → StandsFor ps text → stands_for ps text ≡ true
+stands_only : (ps text : List ℕ) → StandsFor ps text → stands_for ps text ≡ true
 stands_only [] text h = rw h refl
 stands_only (p ∷ ps) text h = elim (cases_eq p 42) [
   | inl star ↦
@@ -79,13 +79,13 @@ stands_only (p ∷ ps) text h = elim (cases_eq p 42) [
     ])
 
 -- two tests of one thing are equal
-pub same_test : {P : Type 0} (a b : Bool) → (IsTrue a ↔ P) → (IsTrue b ↔ P) → a ≡ b
+same_test : {P : Type 0} (a b : Bool) → (IsTrue a ↔ P) → (IsTrue b ↔ P) → a ≡ b
 same_test true true x y = refl
 same_test false false x y = refl
 same_test true false x y = absurd (let e : false ≡ true = y.1 (x.0 refl) in cc)
 same_test false true x y = absurd (let e : false ≡ true = x.1 (y.0 refl) in cc)
 
-pub pattern_is : (pattern name : List ℕ) → IsTrue (matches pattern name) ↔ Matches pattern name
+pattern_is : (pattern name : List ℕ) → IsTrue (matches pattern name) ↔ Matches pattern name
 pattern_is pattern name = (stands (chars pattern) (chars name), stands_only (chars pattern) (chars name))
 
 -- a test that is right about a pattern and a name agrees with the computed one

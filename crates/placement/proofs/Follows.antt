@@ -52,11 +52,11 @@ passes_on p c ps cs other passes h = record { front = c ∷ []; behind = cs; who
 
 -- ---- a `*`
 
-pub star_takes : (ps run rest : List ℕ) → StandsFor ps rest → StandsFor (42 ∷ ps) (run ++ rest)
+star_takes : (ps run rest : List ℕ) → StandsFor ps rest → StandsFor (42 ∷ ps) (run ++ rest)
 star_takes ps run rest h = record { front = run; behind = rest; whole = refl; first = inl refl; rest = h }
 
 -- a longer run does as well
-pub star_takes_more : (ps text : List ℕ) (n : ℕ) → StandsFor (42 ∷ ps) (drop n text) → StandsFor (42 ∷ ps) text
+star_takes_more : (ps text : List ℕ) (n : ℕ) → StandsFor (42 ∷ ps) (drop n text) → StandsFor (42 ∷ ps) text
 star_takes_more ps text n h = record {
   front = take n text ++ h.front;
   behind = h.behind;
@@ -66,7 +66,7 @@ star_takes_more ps text n h = record {
 }
 
 -- behind a `*` the first place serves from which a pattern can be followed up to its next `*`
-pub found_star : (pattern text left at : List ℕ) → IsFollowed pattern text (42 ∷ left) at → StandsFor (42 ∷ pattern) text ↔ StandsFor (42 ∷ left) at
+found_star : (pattern text left at : List ℕ) → IsFollowed pattern text (42 ∷ left) at → StandsFor (42 ∷ pattern) text ↔ StandsFor (42 ∷ left) at
 found_star pattern text left at h = (further, λ is. star_takes pattern [] text (h.back is))
   where
     further : StandsFor (42 ∷ pattern) text → StandsFor (42 ∷ left) at
@@ -78,14 +78,14 @@ found_star pattern text left at h = (further, λ is. star_takes pattern [] text 
         star_takes_more left at (length is.front) (subst (StandsFor (42 ∷ left)) same (h.along is.behind is.rest))
 
 -- where a pattern doesn't stand for a text, a `*` before it takes its first character
-pub moves : (pattern cs : List ℕ) (c : ℕ) → (StandsFor pattern (c ∷ cs) → ⊥) → StandsFor (42 ∷ pattern) (c ∷ cs) ↔ StandsFor (42 ∷ pattern) cs
+moves : (pattern cs : List ℕ) (c : ℕ) → (StandsFor pattern (c ∷ cs) → ⊥) → StandsFor (42 ∷ pattern) (c ∷ cs) ↔ StandsFor (42 ∷ pattern) cs
 moves pattern cs c none = (λ is. taken is.front is.behind is.whole is.rest, star_takes_more pattern (c ∷ cs) 1)
   where
     taken : (front behind : List ℕ) → c ∷ cs ≡ front ++ behind → StandsFor pattern behind → StandsFor (42 ∷ pattern) cs
     taken [] behind whole is = absurd (none (subst (StandsFor pattern) (sym whole) is))
     taken (d ∷ front) behind whole is = let rest : front ++ behind ≡ cs = cc in subst (StandsFor (42 ∷ pattern)) rest (star_takes pattern front behind is)
 
-pub ends : (pattern : List ℕ) → (StandsFor pattern [] → ⊥) → StandsFor (42 ∷ pattern) [] → ⊥
+ends : (pattern : List ℕ) → (StandsFor pattern [] → ⊥) → StandsFor (42 ∷ pattern) [] → ⊥
 ends pattern none is = none (left is.front is.behind is.whole is.rest)
   where
     left : (front behind : List ℕ) → [] ≡ front ++ behind → StandsFor pattern behind → StandsFor pattern []
@@ -94,7 +94,7 @@ ends pattern none is = none (left is.front is.behind is.whole is.rest)
 
 -- ---- following
 
-pub begins : (pattern text : List ℕ) → IsFollowed pattern text pattern text
+begins : (pattern text : List ℕ) → IsFollowed pattern text pattern text
 begins pattern text = record { count = 0; at_is = refl; along = λ other h. h; back = λ h. h }
 
 -- where one character fits, the pattern is followed over it on both sides
@@ -111,7 +111,7 @@ steps pattern text ps cs p c other passes h = record {
     next : (left behind : List ℕ) (n : ℕ) (t : List ℕ) → drop n t ≡ left → (d : ℕ) → left ≡ d ∷ behind → drop (n + 1) t ≡ behind
     next left behind n t is d whole = sym (drop-drop 1 n t) ∙ ap (drop 1) (is ∙ whole)
 
-pub stuck : (pattern text left at : List ℕ) → IsFollowed pattern text left at → (StandsFor left at → ⊥) → StandsFor pattern text → ⊥
+stuck : (pattern text left at : List ℕ) → IsFollowed pattern text left at → (StandsFor left at → ⊥) → StandsFor pattern text → ⊥
 stuck pattern text left at h none is = none (subst (StandsFor left) (sym h.at_is) (h.along text is))
 
 too_short : (p : ℕ) (ps : List ℕ) → p ≢ 42 → StandsFor (p ∷ ps) [] → ⊥
@@ -124,7 +124,7 @@ pub short_text : (pattern text left at ps : List ℕ) (p : ℕ) → IsFollowed p
 short_text pattern text left at ps p h first none other =
     stuck pattern text left at h (λ is. too_short p ps other (subst (StandsFor (p ∷ ps)) none (subst (λ l. StandsFor l at) first is)))
 
-pub long_text : (pattern text left at cs : List ℕ) (c : ℕ) → IsFollowed pattern text left at → left ≡ [] → at ≡ c ∷ cs → StandsFor pattern text → ⊥
+long_text : (pattern text left at cs : List ℕ) (c : ℕ) → IsFollowed pattern text left at → left ≡ [] → at ≡ c ∷ cs → StandsFor pattern text → ⊥
 long_text pattern text left at cs c h none first = stuck pattern text left at h (λ is. let ended : at ≡ [] = subst (λ l. StandsFor l at) none is in cc)
 
 -- a `?` or an equal character carries a pattern further along a text

@@ -46,10 +46,10 @@ same_in names new name node w was is by n =
     ] refl
 
 -- a place where nothing stands stays so
-pub put_nothing : (f : Node → Node) (child : Child) (uid : ℕ) (name : List ℕ) → None ≡ child uid name → IsPut child child uid name (option_map f (child uid name))
+put_nothing : (f : Node → Node) (child : Child) (uid : ℕ) (name : List ℕ) → None ≡ child uid name → IsPut child child uid name (option_map f (child uid name))
 put_nothing f child uid name none = record { here = sym none ∙ ap (option_map f) none; others = λ u n apart. refl }
 
-pub put_none_in : (f : Node → Node) (names new : Names) (name : List ℕ) → new.entries ≡ names.entries → None ≡ get name_cmp names name → IsPutIn names new name (option_map f (get name_cmp names name))
+put_none_in : (f : Node → Node) (names new : Names) (name : List ℕ) → new.entries ≡ names.entries → None ≡ get name_cmp names name → IsPutIn names new name (option_map f (get name_cmp names name))
 put_none_in f names new name same none = record { here = at name ∙ sym none ∙ ap (option_map f) none; others = λ n apart. at n }
   where
     at : (n : List ℕ) → get name_cmp new n ≡ get name_cmp names n

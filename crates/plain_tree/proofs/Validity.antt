@@ -35,7 +35,7 @@ use Rattle.plain_tree.proofs.NodeLemmas.{path_total, path_exact, changed_found, 
 use Rattle.plain_tree.proofs.MoveLemmas.{same_is, is_same, below_split, below_join, below_Decides, not_true, back, back_below, get_moved}
 
 -- a shape goes by the marks alone
-pub same_shape : (m n : Path → Option (ℕ × Bool)) (c d h : ℕ) → ((p : Path) → n p ≡ m p) → d ≤ c → IsShape m c h → IsShape n d h
+same_shape : (m n : Path → Option (ℕ × Bool)) (c d h : ℕ) → ((p : Path) → n p ≡ m p) → d ≤ c → IsShape m c h → IsShape n d h
 same_shape m n c d h same count s = record {
   root = same [] ∙ s.root;
   parents = λ p uid dir at some. let up = s.parents p uid dir (sym (same p) ∙ at) some in (up.0, same (parent_of p) ∙ up.1);
@@ -152,7 +152,7 @@ not_some (Some x) e = cc
 pub not_root : (p : Path) → at_root p ≡ None → p ≢ []
 not_root p e is = let wrong : true ≡ false = sym (ap (λ q. eqb (length q) 0) is) ∙ not_refused (eqb (length p) 0) Root e in cc
 
-pub room_of : (t : Tree) → too_many t ≡ None → (fin.len t.nodes < most_nodes) × (t.highest < 2 ^ 62)
+room_of : (t : Tree) → too_many t ≡ None → (fin.len t.nodes < most_nodes) × (t.highest < 2 ^ 62)
 room_of t e = grind (arith, nat_tests)
 
 -- where a directory is not refused as missing, one stands
@@ -220,7 +220,7 @@ pub inserted_keeps : (m : Nodes) (path : Path) (new : Node) → CanStand m path 
 inserted_keeps m path new can = (can.highest + 1, inserted_shape m path new can)
 
 -- paths below another, and their parents
-pub below_parent : (d p : Path) → is_at_or_below d p ≡ true → length d < length p → is_at_or_below d (parent_of p) ≡ true
+below_parent : (d p : Path) → is_at_or_below d p ≡ true → length d < length p → is_at_or_below d (parent_of p) ≡ true
 below_parent d p e lt = (below_Decides d (parent_of p)).1 ((below_Decides d p).0 e ∙ sym (take-take (length d) (length p - 1) p (omega arith)))
 
 -- a path at or below another is no shorter
@@ -271,7 +271,7 @@ pub valid_free : (t : Tree) → IsValid t → (to : Path) → fin.get t.nodes to
 valid_free t s to none p e = free_below t.nodes (fin.len t.nodes) t.highest s to none (length p - length to) p (omega (arith, below_length to p e)) e
 
 -- a path of one name more than a directory's, below it, is a line of its listing
-pub one_entry : (dir p : Path) (node : Node) (rest : List Entry) → is_at_or_below dir p ≡ true → length p ≡ length dir + 1 → true ≡ nat_lt 0 (length (cons_option (entry_in dir (p, node)) rest))
+one_entry : (dir p : Path) (node : Node) (rest : List Entry) → is_at_or_below dir p ≡ true → length p ≡ length dir + 1 → true ≡ nat_lt 0 (length (cons_option (entry_in dir (p, node)) rest))
 one_entry dir p node rest is long =
     let other : eqb (length p) (length dir) ≡ false = grind (arith, nat_tests) in
     let one : eqb (length p) (length dir + 1) ≡ true = grind (arith, nat_tests) in

@@ -106,7 +106,7 @@ first_leads false e = record { next = tt; last = refl }
 
 -- ---- what a space admits
 
-pub ask_leads : (rules : Rules) (on : Bool) (s : Space) (ask : Ask)
+ask_leads : (rules : Rules) (on : Bool) (s : Space) (ask : Ask)
     → Leads s.ends (space.after rules on s ask).ends (ops_of rules on s ask)
 ask_leads rules on s nothing = record { next = tt; last = refl }
 ask_leads rules on s change = record { next = tt; last = refl }

@@ -66,7 +66,7 @@ put_ends Dp pos x made is =
     ends_are (length (made Ip ++ [])) (length (made Dp ++ x ∷ [])) (length (made Ip)) (pos + 1) (as_long (made Ip))
     (longer (made Dp) x pos is)
 
-pub op_ends : (op : Op) (made : Items) → (place_of op).pos ≡ end_of (place_of op).part (ends_in made)
+op_ends : (op : Op) (made : Items) → (place_of op).pos ≡ end_of (place_of op).part (ends_in made)
     → ends_in (with_op op made) ≡ after_op (ends_in made) op
 op_ends (Put place bytes) made is = put_ends place.part place.pos (item.Block bytes) made is
 op_ends (Mark place) made is = put_ends place.part place.pos item.Mark made is

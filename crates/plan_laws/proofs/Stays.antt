@@ -30,7 +30,7 @@ use Rattle.plan_laws.proofs.Stored.{stored_bytes}
 
 -- ---- below the ends
 
-pub same_below : (planned : Items) (asked : List Op) (part : Part) (pos byte : ℕ)
+same_below : (planned : Items) (asked : List Op) (part : Part) (pos byte : ℕ)
     → pos < end_of part (ends_in planned)
     → tape_on (with_ops asked planned) part pos byte ≡ tape_on planned part pos byte
 same_below planned asked part pos byte lt =

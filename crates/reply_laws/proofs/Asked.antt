@@ -55,10 +55,10 @@ goes_next history p = record {
 -- ---- events that come
 
 -- what is picked from events is picked from those before or from those that came
-pub picked : {X : Type 0} (f : Event → Option X) (before added : List Event) (x : X) → Contains (filter_map f (before ++ added)) x → Contains (filter_map f before) x ⊎ Contains (filter_map f added) x
+picked : {X : Type 0} (f : Event → Option X) (before added : List Event) (x : X) → Contains (filter_map f (before ++ added)) x → Contains (filter_map f before) x ⊎ Contains (filter_map f added) x
 picked f before added x has = Contains-append_cases (filter_map f before) (filter_map f added) x (subst (λ xs. Contains xs x) (filter_map-append f before added) has)
 
-pub picked_before : {X : Type 0} (f : Event → Option X) (before added : List Event) (x : X) → Contains (filter_map f before) x → Contains (filter_map f (before ++ added)) x
+picked_before : {X : Type 0} (f : Event → Option X) (before added : List Event) (x : X) → Contains (filter_map f before) x → Contains (filter_map f (before ++ added)) x
 picked_before f before added x has = subst (λ xs. Contains xs x) (sym (filter_map-append f before added)) (Contains-append_left (filter_map f before) (filter_map f added) x has)
 
 -- what added events bring is brought by the longer trail
@@ -165,7 +165,7 @@ parted (q ∷ qs) zero p e = ap (λ x. x ∷ qs) (sym (same_Some q p e))
 parted (q ∷ qs) (suc k) p e = ap (λ xs. q ∷ xs) (parted qs k p e)
 
 -- where a placement admits an op, it isn't the last of those that the history admits before
-pub below_all : (g : Given) (on : Option ℕ) (history : List Placed) (k : ℕ) (p : Placed) → slice_get history k ≡ Some p → 0 < length (admitted_at g on history k p) → length (admitted g on (take k history)) < length (admitted g on history)
+below_all : (g : Given) (on : Option ℕ) (history : List Placed) (k : ℕ) (p : Placed) → slice_get history k ≡ Some p → 0 < length (admitted_at g on history k p) → length (admitted g on (take k history)) < length (admitted g on history)
 below_all g on history k p at some =
     let within : k < length history = get_within history k p at in
     let long : length (take k history) ≡ k = length-take-le k history (omega (arith, within)) in

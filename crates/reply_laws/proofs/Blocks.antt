@@ -41,7 +41,7 @@ number_is m n e = grind (arith, e)
 abbrev at : Part → ℕ → Place
 at part pos = record { part = part; pos = pos }
 
-pub place_is : (a b : Place) → same_place a b ≡ true → a ≡ b
+place_is : (a b : Place) → same_place a b ≡ true → a ≡ b
 place_is a b e =
     ap (λ p. at p a.pos) (part_is a.part b.part (and_first (same_part a.part b.part) (a.pos == b.pos) e))
     ∙ ap (λ n. at b.part n) (number_is a.pos b.pos (and_second (same_part a.part b.part) (a.pos == b.pos) e))
@@ -64,7 +64,7 @@ place_itself a = ap (λ b. b && (a.pos == a.pos)) (part_itself a.part) ∙ numbe
 turned : (a b : Place) → same_place a b ≡ true → same_place b a ≡ true
 turned a b e = subst (λ x. same_place b x ≡ true) (sym (place_is a b e)) (place_itself b)
 
-pub same_in : (place : Place) (places : List Place) → list_any (same_place place) places ≡ true → Contains places place
+same_in : (place : Place) (places : List Place) → list_any (same_place place) places ≡ true → Contains places place
 same_in place [] e = absurd (cc)
 same_in place (x ∷ xs) e = by (same_in place xs) (same_place place x) refl
   where
@@ -160,7 +160,7 @@ puts_from place st (e ∷ later) h = by (puts_from place (after st e) later h)
     by (inl is) = first (puts_one place st e is)
     by (inr is) = inr (or_right (touches place e) (list_any (touches place) later) is)
 
-pub stands_touched : (place : Place) (trail : List Event) → list_any (puts_at place) (ops (after_all trail)) ≡ true → list_any (touches place) trail ≡ true
+stands_touched : (place : Place) (trail : List Event) → list_any (puts_at place) (ops (after_all trail)) ≡ true → list_any (touches place) trail ≡ true
 stands_touched place trail h = ⊎_elim (λ no. absurd (let n : false ≡ true = no in cc)) (λ is. is) (puts_from place start trail h)
 
 read_touches : (place : Place) (e : Event) → was_read place e ≡ true → touches place e ≡ true
@@ -173,7 +173,7 @@ read_touches place (events.Rests who) h = h
 read_touches place (events.Served ticket there fault) h = h
 read_touches place (events.Worked there fault) h = h
 
-pub read_touched : (place : Place) (trail : List Event) → list_any (was_read place) trail ≡ true → list_any (touches place) trail ≡ true
+read_touched : (place : Place) (trail : List Event) → list_any (was_read place) trail ≡ true → list_any (touches place) trail ≡ true
 read_touched place [] h = h
 read_touched place (e ∷ later) h = ⊎_elim (λ is. or_left (touches place e) (list_any (touches place) later) (read_touches place e is)) (λ is. or_right (touches place e) (list_any (touches place) later) (read_touched place later is)) (or_cases (was_read place e) (list_any (was_read place) later) h)
 

@@ -89,7 +89,7 @@ facts_known g on off history later events added k p call less same agree = recor
 abbrev pub Fits : Given → Option ℕ → List Placed → List Event → ℕ → Placed → Reply → Type 0
 Fits g on history events k p reply = (call : Call) × (call_at g.calls p ≡ Some call) × IsReply p.fate (facts_at g on history events k p call) call reply
 
-pub fits_known : (g : Given) (on off : Option ℕ) (history later : List Placed) (events added : List Event) (k : ℕ) (p : Placed) (reply : Reply) → k < length history → take k later ≡ take k history
+fits_known : (g : Given) (on off : Option ℕ) (history later : List Placed) (events added : List Event) (k : ℕ) (p : Placed) (reply : Reply) → k < length history → take k later ≡ take k history
     → Agree g.mounted on off (length history) → Fits g off history events k p reply → Fits g on later (events ++ added) k p reply
 fits_known g on off history later events added k p reply less same agree fits =
     let known = facts_known g on off history later events added k p fits.0 less same agree in

@@ -24,7 +24,7 @@ use Rattle.serving_promise.specs.Trials.{with_a, write, read, calm, over, fault,
 pub get_put : (m : Nodes) (p : List (List ℕ)) (node : Node) (q : List (List ℕ)) → fin.get (fin.insert m p node) q ≡ cond (eq_by_cmp path_cmp q p) (Some node) (fin.get m q)
 get_put = fin.get-insert path_total
 
-pub reads_hello : (at : Moment) → answer (with_a at (codes "hello")) read ≡ answers.Got (codes "hello")
+reads_hello : (at : Moment) → answer (with_a at (codes "hello")) read ≡ answers.Got (codes "hello")
 reads_hello at = simp (get_put) refl
 
 -- a read of a file with bytes answers these bytes
@@ -49,10 +49,10 @@ first_of (replies.Fault counts) = counts.before
 first_of replies.NoMemory = 0
 
 -- two replies of different sorts, or with different first numbers
-pub unlike : (a b : Reply) → (sort_of a ≢ sort_of b) → a ≢ b
+unlike : (a b : Reply) → (sort_of a ≢ sort_of b) → a ≢ b
 unlike a b differ e = differ (ap sort_of e)
 
-pub unlike_first : (a b : Reply) → (first_of a ≢ first_of b) → a ≢ b
+unlike_first : (a b : Reply) → (first_of a ≢ first_of b) → a ≢ b
 unlike_first a b differ e = differ (ap first_of e)
 
 -- a read isn't answered from a later tree
@@ -88,7 +88,7 @@ pub fault_is : (tree : Tree) → IsReply fates.Done (record (calm tree) { own = 
 fault_is tree = record { within = refl; answered = inr (refl, (twin 0 1, (0, omega arith, refl), refl)) }
 
 -- a list of no faults contains none
-pub none_in : (counts : Twin) → ¬ Contains [] counts
+none_in : (counts : Twin) → ¬ Contains [] counts
 none_in counts at = omega (arith, at.1)
 
 -- a sync that owns no fault isn't told one

@@ -83,7 +83,7 @@ calls_to-le : (s : List ScriptLine) (n : ℕ) → ((who : ℕ) → length (calls
 calls_to-le s zero few = omega arith
 calls_to-le s (suc n) few = omega (arith, calls_to-le s n few, few (suc n))
 
-pub one_more : (x : ScriptLine) (s : List ScriptLine) (who : ℕ) → length (calls_of (x ∷ s) who) ≡ length (calls_of s who) + cond (eqb x.who who) 1 0
+one_more : (x : ScriptLine) (s : List ScriptLine) (who : ℕ) → length (calls_of (x ∷ s) who) ≡ length (calls_of s who) + cond (eqb x.who who) 1 0
 one_more x s who = at (eqb x.who who)
   where
     at : (b : Bool) → length (map (λ (l : ScriptLine). l.call) (cond b (x ∷ filter (λ l. eqb l.who who) s) (filter (λ l. eqb l.who who) s))) ≡ length (calls_of s who) + cond b 1 0

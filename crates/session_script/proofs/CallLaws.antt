@@ -39,7 +39,7 @@ verb_found word verb e =
     test word (codes "remove") verbs.Remove verb _ refl (
     test word (codes "sync") verbs.Sync verb None refl (λ h. cc)))))))))) e
 
-pub read_ok : {A B : Type 0} (o : Option A) (why : ScriptWhy) (next : A → Result B ScriptWhy) (r : B) → read_as o why next ≡ Ok r → (v : A) × (o ≡ Some v) × (next v ≡ Ok r)
+read_ok : {A B : Type 0} (o : Option A) (why : ScriptWhy) (next : A → Result B ScriptWhy) (r : B) → read_as o why next ≡ Ok r → (v : A) × (o ≡ Some v) × (next v ≡ Ok r)
 read_ok None why next r e = cc
 read_ok (Some v) why next r e = (v, refl, e)
 

@@ -8,7 +8,7 @@ use Rattle.percent_encoding.specs.Percent.{encode_byte, percent_encode, percent_
 use Rattle.session_script.specs.Escapes.{escaped, escaped_byte, is_escaped}
 use Rattle.session_script.specs.declared.escapes.TheConstants.{ESCAPED}
 
-pub same_below : agree_below (should_percent_encode ESCAPED) is_escaped 128 ≡ true
+same_below : agree_below (should_percent_encode ESCAPED) is_escaped 128 ≡ true
 unfolding should_percent_encode
 same_below = refl
 

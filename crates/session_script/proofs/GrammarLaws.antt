@@ -111,7 +111,7 @@ pub skipped : (line : List ℕ) (lines : List (List ℕ)) (script : List ScriptL
 skipped line lines [] valid skip rest = (valid, skip, rest)
 skipped line lines (spelled ∷ script) valid skip rest = (valid, inl (skip, rest))
 
-pub from_found : (n : ℕ) (before : List ScriptLine) (lines : List (List ℕ)) (script : List ScriptLine) → script_from n before lines ≡ Ok script → IsWithinLimits before → Adds before lines script
+from_found : (n : ℕ) (before : List ScriptLine) (lines : List (List ℕ)) (script : List ScriptLine) → script_from n before lines ≡ Ok script → IsWithinLimits before → Adds before lines script
 from_found n before [] script e within =
     let same : before ≡ script = cc in record {
       added = [];

@@ -42,5 +42,5 @@ pair_wrong text front k lt is =
     ap (rest_of front) (at_pair text k lt)
     ∙ ap (λ o. option_map (λ more. front ++ more) (option_and_then (λ b. option_map (λ bytes. b ∷ bytes) (hex_bytes (drop (2 * (k + 1)) text))) o)) is
 
-pub pairs_done : (text front : List ℕ) (k : ℕ) → length text ≤ 2 * k → rest_of front (drop (2 * k) text) ≡ Some front
+pairs_done : (text front : List ℕ) (k : ℕ) → length text ≤ 2 * k → rest_of front (drop (2 * k) text) ≡ Some front
 pairs_done text front k le = ap (rest_of front) (drop_all (2 * k) text le) ∙ ap Some (append-nil front)

@@ -30,10 +30,10 @@ encode_lower-hex_byte (b ∷ bytes) small =
     ∙ ap (λ d. digit_glyph false (b / 16) ∷ d ∷ encode_lower bytes) (digit_same (b % 16) (omega arith))
     ∙ ap (λ l. digit_glyph false (b / 16) ∷ digit_glyph false (b % 16) ∷ l) (encode_lower-hex_byte bytes (λ k d lt. small (suc k) d (omega arith)))
 
-pub hex_text-some : (bytes : List ℕ) → 0 < length bytes → hex_text bytes ≡ 32 ∷ flat_map hex_byte bytes
+hex_text-some : (bytes : List ℕ) → 0 < length bytes → hex_text bytes ≡ 32 ∷ flat_map hex_byte bytes
 hex_text-some [] some = absurd (omega arith)
 hex_text-some (b ∷ bytes) some = refl
 
-pub hex_text-none : (bytes : List ℕ) → length bytes ≡ 0 → hex_text bytes ≡ []
+hex_text-none : (bytes : List ℕ) → length bytes ≡ 0 → hex_text bytes ≡ []
 hex_text-none [] none = refl
 hex_text-none (b ∷ bytes) none = absurd (omega arith)

@@ -15,11 +15,11 @@ pub some_if : {A : Type 0} (b : Bool) (x y : A) → cond b (Some x) None ≡ Som
 some_if true x y e = (refl, cc)
 some_if false x y e = cc
 
-pub all_yes : {X : Type 0} (p : X → Bool) (P : X → Type 0) → ((x : X) → p x ≡ true → P x) → (xs : List X) → list_all p xs ≡ true → AllByRecursion P xs
+all_yes : {X : Type 0} (p : X → Bool) (P : X → Type 0) → ((x : X) → p x ≡ true → P x) → (xs : List X) → list_all p xs ≡ true → AllByRecursion P xs
 all_yes p P say [] h = tt
 all_yes p P say (x ∷ xs) h = let b = and_parts (p x) (list_all p xs) h in (say x b.0, all_yes p P say xs b.1)
 
-pub all_no : {X : Type 0} (p : X → Bool) (P : X → Type 0) → ((x : X) → P x → p x ≡ true) → (xs : List X) → AllByRecursion P xs → list_all p xs ≡ true
+all_no : {X : Type 0} (p : X → Bool) (P : X → Type 0) → ((x : X) → P x → p x ≡ true) → (xs : List X) → AllByRecursion P xs → list_all p xs ≡ true
 all_no p P say [] h = refl
 all_no p P say (x ∷ xs) h = ap (λ b. b && list_all p xs) (say x h.0) ∙ all_no p P say xs h.1
 

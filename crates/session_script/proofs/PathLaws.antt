@@ -32,7 +32,7 @@ onto_free byte x [] ne h = ((ne, tt), tt)
 onto_free byte x (part ∷ parts) ne h = ((ne, h.0), h.1)
 
 -- the pieces of a cut don't have the byte
-pub split_free : (byte : ℕ) (text : List ℕ) → AllByRecursion (Lacks byte) (slice_split (λ b. eqb b byte) text)
+split_free : (byte : ℕ) (text : List ℕ) → AllByRecursion (Lacks byte) (slice_split (λ b. eqb b byte) text)
 split_free byte [] = (tt, tt)
 split_free byte (x ∷ text) = at (eqb x byte) (λ h e. ne_from h e) (split_free byte text)
   where

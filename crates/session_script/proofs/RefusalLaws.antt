@@ -40,7 +40,7 @@ all_full : (words : List (List ℕ)) → list_any is_empty words ≡ false → A
 all_full [] h = tt
 all_full (w ∷ words) h = let both = or_parts (is_empty w) (list_any is_empty words) h in (not_empty w both.0, all_full words both.1)
 
-pub none_empty : (words : List (List ℕ)) → AllByRecursion (λ w. 1 ≤ length w) words → list_any is_empty words ≡ false
+none_empty : (words : List (List ℕ)) → AllByRecursion (λ w. 1 ≤ length w) words → list_any is_empty words ≡ false
 none_empty [] h = refl
 none_empty (w ∷ words) h = ap (λ b. b || list_any is_empty words) (empty_no w h.0) ∙ none_empty words h.1
 

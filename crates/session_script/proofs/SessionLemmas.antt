@@ -10,7 +10,7 @@ use Rattle.session_script.specs.Grammar.{calls_of}
 use Rattle.session_script.specs.Sessions.{nth_at, greatest_session, HasSessions, places_from, IsIndexed}
 use Rattle.tape_types.proofs.LongerLists.{slice_get-append, slice_get-seam}
 
-pub calls_more : (a : List ScriptLine) (l : ScriptLine) (who : ℕ) → calls_of (a ++ l ∷ []) who ≡ calls_of a who ++ cond (eqb l.who who) (l.call ∷ []) []
+calls_more : (a : List ScriptLine) (l : ScriptLine) (who : ℕ) → calls_of (a ++ l ∷ []) who ≡ calls_of a who ++ cond (eqb l.who who) (l.call ∷ []) []
 calls_more [] l who = at (eqb l.who who)
   where
     at : (b : Bool) → map (λ (x : ScriptLine). x.call) (cond b (l ∷ []) []) ≡ [] ++ cond b (l.call ∷ []) []
@@ -127,12 +127,12 @@ no_calls (x ∷ a) who has out =
     other : eqb x.who who ≡ false
     other = ne_eqb x.who who (λ e. out (omega (arith, first.0)) (omega (arith, first.1)))
 
-pub nth_at-old : (a : List ScriptLine) (l : ScriptLine) (k : ℕ) → k < length a → nth_at (a ++ l ∷ []) k ≡ nth_at a k
+nth_at-old : (a : List ScriptLine) (l : ScriptLine) (k : ℕ) → k < length a → nth_at (a ++ l ∷ []) k ≡ nth_at a k
 nth_at-old a l k lt =
     ap (λ o. unwrap_or (option_map (λ (line : ScriptLine). length (calls_of (take k (a ++ l ∷ [])) line.who)) o) 0) (slice_get-append a (l ∷ []) k lt)
     ∙ ap (λ s. unwrap_or (option_map (λ (line : ScriptLine). length (calls_of s line.who)) (slice_get a k)) 0) (take-append-le k a (l ∷ []) (omega arith))
 
-pub nth_at-new : (a : List ScriptLine) (l : ScriptLine) → nth_at (a ++ l ∷ []) (length a) ≡ length (calls_of a l.who)
+nth_at-new : (a : List ScriptLine) (l : ScriptLine) → nth_at (a ++ l ∷ []) (length a) ≡ length (calls_of a l.who)
 nth_at-new a l =
     ap (λ o. unwrap_or (option_map (λ (line : ScriptLine). length (calls_of (take (length a) (a ++ l ∷ [])) line.who)) o) 0) (slice_get-seam a l)
     ∙ ap (λ s. length (calls_of s l.who)) (take_at a (l ∷ []) (length a) refl)
@@ -151,7 +151,7 @@ HasSessions-more a l has low high k d lt = ⊎_elim
     (λ (past : length a ≤ k). subst (λ (x : ScriptLine). (1 ≤ x.who) × (x.who ≤ most_sessions)) (sym (get_or_push a l d k (omega (arith, length_push a l)))) (low, high))
     (cases_lt k (length a))
 
-pub IsIndexed-nil : (lists : List (List ℕ)) → lists ≡ replicate most_sessions [] → IsIndexed [] [] lists 0
+IsIndexed-nil : (lists : List (List ℕ)) → lists ≡ replicate most_sessions [] → IsIndexed [] [] lists 0
 IsIndexed-nil lists same = record {
   has_sessions = λ k d lt. absurd (omega arith);
   small = omega arith;
@@ -163,7 +163,7 @@ IsIndexed-nil lists same = record {
   greatest = refl;
 }
 
-pub IsIndexed-push : (a : List ScriptLine) (nths : List ℕ) (places : List (List ℕ)) (sessions : ℕ) (l : ScriptLine) (nth : ℕ) (more : List (List ℕ)) (greatest : ℕ)
+IsIndexed-push : (a : List ScriptLine) (nths : List ℕ) (places : List (List ℕ)) (sessions : ℕ) (l : ScriptLine) (nth : ℕ) (more : List (List ℕ)) (greatest : ℕ)
     → IsIndexed a nths places sessions → 1 ≤ l.who → l.who ≤ most_sessions → length a + 1 < 2 ^ 32
     → nth ≡ length (get_or places (l.who - 1) []) → more ≡ set places (l.who - 1) (get_or places (l.who - 1) [] ++ length a ∷ []) → greatest ≡ max sessions l.who
     → IsIndexed (a ++ l ∷ []) (nths ++ nth ∷ []) more greatest

@@ -8,7 +8,7 @@ use Rattle.index_model.specs.Values.{IndexValue, directory, facts_of, file, link
 use Rattle.index_model.specs.declared.nodes.NodeKind.TheVariants as kinds
 use Rattle.space_laws.specs.Files.{value_of}
 
-pub archive_nests : (at : Moment) (times : Times) → option_map (λ (v : IndexValue). v.inside) (value_of (archive at times))
+archive_nests : (at : Moment) (times : Times) → option_map (λ (v : IndexValue). v.inside) (value_of (archive at times))
     ≡ Some (directory (facts_of (node times 0 2 (codes "docs") kinds.Dir)) (file (facts_of (keyed (note ∷ bin ∷ hi ∷ []) (node times 1 3 (codes "read me.txt") kinds.Dir))) 5 (hello ∷ []) no_nodes) (link (facts_of (node times 0 4 (codes "latest") kinds.Dir)) (codes "docs/read me.txt") no_nodes))
 archive_nests at times = refl
 

@@ -70,7 +70,7 @@ ask_plainly = record { unrefused = unrefused; asked = asked; stored = stored; fi
 -- ---- for use above
 
 -- what holds of nothing and of a change holds of what is asked plainly
-pub of_plain : (P : Ask → Type 0) → P nothing → P change → (ask : Ask) → AsksPlainly ask → P ask
+of_plain : (P : Ask → Type 0) → P nothing → P change → (ask : Ask) → AsksPlainly ask → P ask
 of_plain P none some ask = ⊎_elim (λ (is : ask ≡ nothing). subst P (sym is) none) (λ (is : ask ≡ change). subst P (sym is) some)
 
 -- so it holds of what a call asks that needs no room

@@ -123,7 +123,7 @@ first_of at inside = entries at (at + 1) inside
 abbrev second_of : ℕ → ℕ → Nodes → Nodes → List Entry
 second_of parent at inside behind = entries parent (at + 1 + count inside) behind
 
-pub has_own : (ns : Nodes) (all : List Entry) (parent at : ℕ) → parent < at → IsPart all (entries parent at ns) at (at + count ns) → HasOwn all at ns
+has_own : (ns : Nodes) (all : List Entry) (parent at : ℕ) → parent < at → IsPart all (entries parent at ns) at (at + count ns) → HasOwn all at ns
 has_own no_nodes all parent at less part = tt
 has_own (directory facts inside behind) all parent at less part = (
   part at (omega arith) (omega arith) ∙ here,
@@ -189,7 +189,7 @@ gathers_tops depth ih (file facts bytes extents behind) all parent at le has =
 gathers_tops depth ih (link facts text behind) all parent at le has =
     ap (λ (n : Nodes). link facts text n) (gathers_tops depth ih behind all parent (at + 1) (omega (arith, le)) has)
 
-pub gathers : (depth : ℕ) → AreGathered depth
+gathers : (depth : ℕ) → AreGathered depth
 gathers zero ns all parent at less tops_are has = absurd (omega (arith, less))
 gathers (suc depth) ns all parent at less tops_are has =
     ap (λ (l : List Entry). gather (gather_in depth all) l) tops_are ∙ gathers_tops depth (gathers depth) ns all parent at (omega (arith, less)) has
@@ -286,7 +286,7 @@ module _ (v : IndexValue) where
       let inside = inside_is (root ∷ more) told in
       λ t. Some (record { volume = volume t; root = facts t; inside = inside t })
 
-pub told_value : (index : Index) (v : IndexValue) → Tells index v → value_of index ≡ Some v
+told_value : (index : Index) (v : IndexValue) → Tells index v → value_of index ≡ Some v
 told_value index v h = with_root_is v index index.nodes h.volume h.nodes
 
 -- an index and a value that it tells have the same canonical form

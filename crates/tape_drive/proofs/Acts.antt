@@ -26,7 +26,7 @@ none_within count held [] image lt numbered h = h
 none_within count held (e ∷ es) image lt numbered (inl h) = absurd (omega (arith, numbered.0 lt, h.0))
 none_within count held (e ∷ es) image lt numbered (inr h) = none_within count (undo e.act held) es image lt numbered.1 h
 
-pub since_at : (count t : ℕ) (held : Cartridge) (es : List DoneCommand) (image : Cartridge) → Numbered count es → t ≤ count
+since_at : (count t : ℕ) (held : Cartridge) (es : List DoneCommand) (image : Cartridge) → Numbered count es → t ≤ count
     → LeftWithin held es t image → LeftSince count held es t image
 since_at count t held es image numbered le h = ⊎_elim
     (λ (lt : count < 2 ^ 64 - 1). ⊎_elim
@@ -100,15 +100,15 @@ module _ (held : Cartridge) (es : List DoneCommand) (count count2 : ℕ) (number
       }
 
 -- the parts of a cartridge with other items in a partition
-pub items_with : (p : Part) (xs : List Item) (vcr : ℕ) (c : Cartridge) → items_of p (with_items p xs vcr c) ≡ xs
+items_with : (p : Part) (xs : List Item) (vcr : ℕ) (c : Cartridge) → items_of p (with_items p xs vcr c) ≡ xs
 items_with Ip xs vcr c = refl
 items_with Dp xs vcr c = refl
 
-pub vcr_with : (p : Part) (xs : List Item) (vcr : ℕ) (c : Cartridge) → (with_items p xs vcr c).vcr ≡ vcr
+vcr_with : (p : Part) (xs : List Item) (vcr : ℕ) (c : Cartridge) → (with_items p xs vcr c).vcr ≡ vcr
 vcr_with Ip xs vcr c = refl
 vcr_with Dp xs vcr c = refl
 
-pub rest_with : (p : Part) (xs : List Item) (vcr : ℕ) (c : Cartridge) → KeepsRest p c (with_items p xs vcr c)
+rest_with : (p : Part) (xs : List Item) (vcr : ℕ) (c : Cartridge) → KeepsRest p c (with_items p xs vcr c)
 rest_with Ip xs vcr c = record { other_part = refl; note_ip = refl; note_dp = refl }
 rest_with Dp xs vcr c = record { other_part = refl; note_ip = refl; note_dp = refl }
 

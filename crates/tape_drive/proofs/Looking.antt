@@ -7,7 +7,7 @@ use Rattle.tape_drive.specs.Looks.{Looks}
 use Rattle.tape_drive.specs.declared.drive.Drive.{Ghosts}
 
 -- no command
-pub no_reads : (count : ℕ) (leaves : Cartridge → Type 0) (since : ℕ → Cartridge → Type 0) → count ≤ 2 ^ 64 - 1
+no_reads : (count : ℕ) (leaves : Cartridge → Type 0) (since : ℕ → Cartridge → Type 0) → count ≤ 2 ^ 64 - 1
     → OnlyReads 0 count count leaves leaves since since
 no_reads count leaves since most = record {
   later = omega arith;
@@ -18,7 +18,7 @@ no_reads count leaves since most = record {
 }
 
 -- one command, where now is one of the moments since each number that was reached
-pub one_read : {most a b : ℕ} {leaves_a leaves_b : Cartridge → Type 0} {since_a since_b : ℕ → Cartridge → Type 0}
+one_read : {most a b : ℕ} {leaves_a leaves_b : Cartridge → Type 0} {since_a since_b : ℕ → Cartridge → Type 0}
     → ((t : ℕ) (image : Cartridge) → t ≤ a → leaves_a image → since_a t image) → Counted most a b
     → Crashes NothingNew a leaves_a leaves_b since_a since_b → OnlyReads most a b leaves_a leaves_b since_a since_b
 one_read {leaves_a = leaves_a} {since_a = since_a} counts_now counted crashes = record {
@@ -34,7 +34,7 @@ one_read {leaves_a = leaves_a} {since_a = since_a} counts_now counted crashes = 
 }
 
 -- one run after another
-pub then_reads : {m n a b c : ℕ} {leaves_a leaves_b leaves_c : Cartridge → Type 0} {since_a since_b since_c : ℕ → Cartridge → Type 0}
+then_reads : {m n a b c : ℕ} {leaves_a leaves_b leaves_c : Cartridge → Type 0} {since_a since_b since_c : ℕ → Cartridge → Type 0}
     → OnlyReads m a b leaves_a leaves_b since_a since_b → OnlyReads n b c leaves_b leaves_c since_b since_c
     → OnlyReads (m + n) a c leaves_a leaves_c since_a since_c
 then_reads first second = record {
@@ -46,7 +46,7 @@ then_reads first second = record {
 }
 
 -- a greater bound
-pub more_reads : {m n a b : ℕ} {leaves_a leaves_b : Cartridge → Type 0} {since_a since_b : ℕ → Cartridge → Type 0}
+more_reads : {m n a b : ℕ} {leaves_a leaves_b : Cartridge → Type 0} {since_a since_b : ℕ → Cartridge → Type 0}
     → m ≤ n → OnlyReads m a b leaves_a leaves_b since_a since_b → OnlyReads n a b leaves_a leaves_b since_a since_b
 more_reads le reads = record {
   later = reads.later;

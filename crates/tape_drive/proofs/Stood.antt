@@ -80,7 +80,7 @@ still_by part Flushed n m items s earlier ih lt none = refl
 still_by part (Noted p before) n m items s earlier ih lt none = ih lt none
 still_by part Settled n m items s earlier ih lt none = ih lt none
 
-pub still_stands : (part : Part) (items : List Item) (es : List DoneCommand) (m : ℕ) → m < moments es → next_put part items es m ≡ None → stood part items es m ≡ items
+still_stands : (part : Part) (items : List Item) (es : List DoneCommand) (m : ℕ) → m < moments es → next_put part items es m ≡ None → stood part items es m ≡ items
 still_stands part items [] m lt none = refl
 still_stands part items (e ∷ es) m lt none =
     still_by part e.act (moments es) m items (stood part (undone part e.act items) es m) (next_put part (undone part e.act items) es m)
@@ -104,7 +104,7 @@ in_by part Flushed n m items s E all ih lt = refl
 in_by part (Noted p before) n m items s E all ih lt = ih lt
 in_by part Settled n m items s E all ih lt = ih lt
 
-pub stood_in : (part : Part) (items : List Item) (es : List DoneCommand) (m : ℕ) → m < moments es → Stood part items es (stood part items es m)
+stood_in : (part : Part) (items : List Item) (es : List DoneCommand) (m : ℕ) → m < moments es → Stood part items es (stood part items es m)
 stood_in part items [] m lt = refl
 stood_in part items (e ∷ es) m lt =
     in_by part e.act (moments es) m items (stood part (undone part e.act items) es m) (λ (l x : List Item). Stood part l es x) (λ (l : List Item). stood_now part l es)
@@ -157,7 +157,7 @@ torn_by part Flushed n m pos items s earlier E none ih still lt is = absurd (cc)
 torn_by part (Noted p before) n m pos items s earlier E none ih still lt is = ih lt is
 torn_by part Settled n m pos items s earlier E none ih still lt is = ih lt is
 
-pub torn_in : (part : Part) (items : List Item) (es : List DoneCommand) (m pos : ℕ) → m < moments es → next_put part items es m ≡ Some pos → Stood part items es (take pos (stood part items es m) ++ item.Torn ∷ [])
+torn_in : (part : Part) (items : List Item) (es : List DoneCommand) (m pos : ℕ) → m < moments es → next_put part items es m ≡ Some pos → Stood part items es (take pos (stood part items es m) ++ item.Torn ∷ [])
 torn_in part items [] m pos lt is = absurd (cc)
 torn_in part items (e ∷ es) m pos lt is =
     let l = undone part e.act items in

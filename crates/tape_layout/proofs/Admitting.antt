@@ -31,7 +31,7 @@ left_is p new ops those to due then is h same due_is =
     is ∙ ap (λ e. with_ops p ops e due) h.ends_are ∙ ap (λ o. with_ops p o to due) same ∙ ap (with_ops p those to) due_is
 
 -- what was asked and what there is, in the layout's own numbers
-pub within : (p : Plan) (part : Part) (doc : List ℕ) (size pos more n limit there : ℕ) → size ≡ p.block_size → pos ≡ end_of part p.ends → n ≡ div_ceil (length doc) size → limit ≡ there → pos + more + n ≤ limit
+within : (p : Plan) (part : Part) (doc : List ℕ) (size pos more n limit there : ℕ) → size ≡ p.block_size → pos ≡ end_of part p.ends → n ≡ div_ceil (length doc) size → limit ≡ there → pos + more + n ≤ limit
     → end_of part p.ends + more + div_ceil (length doc) p.block_size ≤ there
 within p part doc size pos more n limit there size_is pos_is n_is limit_is le =
     let count : n ≡ div_ceil (length doc) p.block_size = n_is ∙ ap (div_ceil (length doc)) size_is in omega arith
@@ -59,14 +59,14 @@ data_drafted p size part place bytes start old new size_is place_is old_is new_i
 
 -- ---- an index
 
-pub index_ready : (p : Plan) (part : Part) (doc : List ℕ) (first ops : List Op) → CanBe p.limits p.block_size p.ends → Lead p.limits p.block_size p.ends p.ends first
+index_ready : (p : Plan) (part : Part) (doc : List ℕ) (first ops : List Op) → CanBe p.limits p.block_size p.ends → Lead p.limits p.block_size p.ends p.ends first
     → end_of part p.ends + 2 + div_ceil (length doc) p.block_size ≤ capacity part p.limits
     → ops ≡ first ++ construct p.block_size part (end_of part p.ends) doc → IsReady p (with_end part (end_of part p.ends + 2 + div_ceil (length doc) p.block_size) p.ends) ops
 index_ready p part doc first ops can before fits is =
     subst (IsReady p (with_end part (end_of part p.ends + 2 + div_ceil (length doc) p.block_size) p.ends)) (sym is)
     (ready p _ _ (lead_append p.limits p.block_size p.ends p.ends _ first _ before (index_leads p.limits p.block_size part p.ends (end_of part p.ends) doc can.some refl fits)) (can_end p.limits p.block_size _ part p.ends can (omega arith) fits))
 
-pub index_drafted : (p : Plan) (size : ℕ) (part : Part) (place : Place) (doc : List ℕ) (old new : Drafted) → size ≡ p.block_size → place ≡ record { part = part; pos = end_of part p.ends }
+index_drafted : (p : Plan) (size : ℕ) (part : Part) (place : Place) (doc : List ℕ) (old new : Drafted) → size ≡ p.block_size → place ≡ record { part = part; pos = end_of part p.ends }
     → new ≡ record { start = old.start; ops = old.ops ++ construct size place.part place.pos doc }
     → new.ops ≡ old.ops ++ construct p.block_size part (end_of part p.ends) doc
 index_drafted p size part place doc old new size_is place_is new_is =

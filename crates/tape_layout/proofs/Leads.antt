@@ -150,7 +150,7 @@ none_kept limits size ends items can none = subst (AreKept limits size ends) (sy
   kept = refl;
 }
 
-pub more_kept : (limits : Limits) (size : ℕ) (ends to : Ends) (items more news : List Standing) → AreKept limits size ends items
+more_kept : (limits : Limits) (size : ℕ) (ends to : Ends) (items more news : List Standing) → AreKept limits size ends items
     → Lead limits size ends to (map (λ (s : Standing). s.op) more) → CanBe limits size to → more ≡ counted ends (map (λ (s : Standing). s.op) more) → news ≡ items ++ more → AreKept limits size to news
 more_kept limits size ends to items more news h lead can kept is = subst (AreKept limits size to) (sym is) record {
   standing = record {

@@ -19,10 +19,10 @@ day_and_second : (secs day : ℤ) (second : ℕ) → second < 86400 → secs ≡
 day_and_second secs day second low e =
     (omega (arith, signed_arith), omega (arith, signed_arith, unsigned_abs-parts))
 
-pub second_of_day_bound : (secs : ℤ) → second_of_day secs < 86400
+second_of_day_bound : (secs : ℤ) → second_of_day secs < 86400
 second_of_day_bound secs = omega (arith, signed_arith, unsigned_abs-parts)
 
-pub second-parts : (secs : ℤ) → secs ≡ day_number secs *ℤ pos 86400 +ℤ pos (second_of_day secs)
+second-parts : (secs : ℤ) → secs ≡ day_number secs *ℤ pos 86400 +ℤ pos (second_of_day secs)
 second-parts secs = omega (arith, signed_arith, unsigned_abs-parts)
 
 -- the days of moments are those of the years 0 to 9999
@@ -98,11 +98,11 @@ same_moment m n secs nanos =
     }
 
 -- one date and time of day is that of one moment
-pub moment_only : (m n : Moment) (c : Civil) → IsCivil m c → IsCivil n c → m ≡ n
+moment_only : (m n : Moment) (c : Civil) → IsCivil m c → IsCivil n c → m ≡ n
 moment_only m n c h k = same_moment m n (h.secs ∙ sym k.secs) (h.nanos ∙ sym k.nanos)
 
 -- a text that shows the date and time of day of a moment shows no other
-pub shown_only : (m : Moment) (c : Civil) → HasPlaces c → civil_text c ≡ time_text m → IsCivil m c
+shown_only : (m : Moment) (c : Civil) → HasPlaces c → civil_text c ≡ time_text m → IsCivil m c
 shown_only m c places e =
     let found = has_civil m in
     let same : c ≡ found.0 = civil_text_injective c found.0 places (civil-places m found.0 found.1) (e ∙ time_text_civil m found.0 found.1) in
@@ -115,7 +115,7 @@ time_text_injective m n e =
     moment_only m n found.0 found.1 (shown_only n found.0 (civil-places m found.0 found.1) (sym (time_text_civil m found.0 found.1) ∙ e))
 
 -- a text is that of no moment where none has the date and time of day that it shows
-pub not_shown : (text : List ℕ) (c : Civil) → text ≡ civil_text c → HasPlaces c → ((m : Moment) → ¬ IsCivil m c) → (m : Moment) → text ≡ time_text m → ⊥
+not_shown : (text : List ℕ) (c : Civil) → text ≡ civil_text c → HasPlaces c → ((m : Moment) → ¬ IsCivil m c) → (m : Moment) → text ≡ time_text m → ⊥
 not_shown text c shows places none m e = none m (shown_only m c places (sym shows ∙ e))
 
 -- a text that shows no date and time of day is no moment's

@@ -13,7 +13,7 @@ use Rattle.jiff_core.proofs.DateLemmas.{days_from_civil-max}
 use Rattle.tape_types.specs.Times.{year_of, month_of, day_of}
 use borrow.Author.Differences.{up, down}
 
-pub day_count-year_zero : day_count (pos 0) 1 1 ≡ 3_652_425
+day_count-year_zero : day_count (pos 0) 1 1 ≡ 3_652_425
 day_count-year_zero = day_count-early (pos 0) 9999 1 1 refl (omega arith) (omega arith) (omega arith)
 
 -- the number of the first day of year 0
@@ -27,11 +27,11 @@ year_in y h = (omega (arith, signed_arith), omega (arith, signed_arith))
 pub year_bound : (y m d : ℕ) → IsCivilDate (pos y) m d → y ≤ 9999
 year_bound y m d h = let high = h.0.1 in omega (arith, signed_arith)
 
-pub first_of_month : (y m : ℕ) → y ≤ 9999 → 1 ≤ m → m ≤ 12 → IsCivilDate (pos y) m 1
+first_of_month : (y m : ℕ) → y ≤ 9999 → 1 ≤ m → m ≤ 12 → IsCivilDate (pos y) m 1
 first_of_month y m h low high = (year_in y h, (low, high), (omega arith, omega (arith, days_in_month_bounds (pos y) m)))
 
 -- 1 January comes before the other dates of its year and of later years
-pub from_january : (y k m d : ℕ) → IsCivilDate (pos y) m d → k ≤ y → day_count (pos k) 1 1 ≤ day_count (pos y) m d
+from_january : (y k m d : ℕ) → IsCivilDate (pos y) m d → k ≤ y → day_count (pos k) 1 1 ≤ day_count (pos y) m d
 from_january y k m d h le =
     let top = year_bound y m d h in
     elim (cases_order k y) [
@@ -41,11 +41,11 @@ from_january y k m d h le =
     ]
 
 -- and after the dates of earlier years
-pub before_january : (y k m d : ℕ) → IsCivilDate (pos y) m d → y < k → day_count (pos y) m d < day_count (pos k) 1 1
+before_january : (y k m d : ℕ) → IsCivilDate (pos y) m d → y < k → day_count (pos y) m d < day_count (pos k) 1 1
 before_january y k m d h lt = day_count-lt_year (pos y) m d (pos k) 1 1 h (omega arith) (omega (arith, signed_arith))
 
 -- the first of a month comes before the other dates of the month and of later months
-pub from_first : (y k m d : ℕ) → IsCivilDate (pos y) m d → 1 ≤ k → k ≤ m → day_count (pos y) k 1 ≤ day_count (pos y) m d
+from_first : (y k m d : ℕ) → IsCivilDate (pos y) m d → 1 ≤ k → k ≤ m → day_count (pos y) k 1 ≤ day_count (pos y) m d
 from_first y k m d h low le =
     elim (cases_order k m) [
       | inl same ↦ rw same (omega (arith, h.2.0, day_count-day (pos y) m 1 d (omega arith) h.2.0))
@@ -53,7 +53,7 @@ from_first y k m d h low le =
       | inr (inr gt) ↦ absurd (omega arith)
     ]
 
-pub before_first : (y k m d : ℕ) → IsCivilDate (pos y) m d → m < k → day_count (pos y) m d < day_count (pos y) k 1
+before_first : (y k m d : ℕ) → IsCivilDate (pos y) m d → m < k → day_count (pos y) m d < day_count (pos y) k 1
 before_first y k m d h lt = day_count-lt_month (pos y) m d k 1 h (omega arith) lt
 
 le-yes : (a b : ℤ) → a ≤ℤ b → is_le (int_cmp a b) ≡ true

@@ -33,13 +33,13 @@ digits_injective (suc width) a b low high e =
     omega (arith, same.1)
 
 -- one digit more
-pub digits_more : (width n digit : ℕ) → digit < 10 → digits (suc width) (n * 10 + digit) ≡ digits width n ++ (48 + digit) ∷ []
+digits_more : (width n digit : ℕ) → digit < 10 → digits (suc width) (n * 10 + digit) ≡ digits width n ++ (48 + digit) ∷ []
 digits_more width n digit h =
     let front : (n * 10 + digit) / 10 ≡ n = omega arith in
     let last : (n * 10 + digit) % 10 ≡ digit = omega arith in
     rw (front, last)
 
-pub ten_up : (i j : ℕ) → 10 ^ i ≤ 10 ^ (j + i)
+ten_up : (i j : ℕ) → 10 ^ i ≤ 10 ^ (j + i)
 ten_up i zero = let same : 0 + i ≡ i = omega arith in rw same (omega arith)
 ten_up i (suc j) =
     let next : suc j + i ≡ suc (j + i) = omega arith in
@@ -53,7 +53,7 @@ last_digit : (digit : ℕ) → digit < 10 → is_ascii_digit (48 + digit) ≡ tr
 last_digit digit h = grind arith
 
 -- each of them is a decimal digit
-pub digit_at : (width n i : ℕ) → i < width → is_ascii_digit (get_or (digits width n) i 0) ≡ true
+digit_at : (width n i : ℕ) → i < width → is_ascii_digit (get_or (digits width n) i 0) ≡ true
 digit_at zero n i h = absurd (omega arith)
 digit_at (suc width) n i h =
     let front = digits width (n / 10) in

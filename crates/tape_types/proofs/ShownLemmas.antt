@@ -22,7 +22,7 @@ from-digits (suc width) n low =
     let front : number_from 0 (digits width (n / 10)) ≡ n / 10 = from-digits width (n / 10) (omega arith) in
     from-snoc 0 (digits width (n / 10)) (48 + n % 10) ∙ omega (arith, front)
 
-pub numbers-shown : (text : List ℕ) (c : Civil) → text ≡ civil_text c → HasPlaces c → numbers_in text ≡ c
+numbers-shown : (text : List ℕ) (c : Civil) → text ≡ civil_text c → HasPlaces c → numbers_in text ≡ c
 numbers-shown text c e places =
     let h = parts_of text c e in
     same_civil (numbers_in text) c

@@ -35,7 +35,7 @@ appends_more (Some k) None c x y p q = absurd p
 appends_more (Some k) (Some l) None x y p q = absurd q
 appends_more (Some k) (Some l) (Some m) x y p q = q ∙ ap (λ l. l ++ y) p ∙ append_assoc k x y
 
-pub appends_none : (a : Option (List ℕ)) → Appends a a []
+appends_none : (a : Option (List ℕ)) → Appends a a []
 appends_none None = tt
 appends_none (Some k) = sym (whole_list k)
 
@@ -62,7 +62,7 @@ front_of a held rest n = (
         step : min (suc n) (length (b ∷ l)) ≡ suc (min n (length l))
         step = omega arith
 
-pub front_written : (old mid new : Option (List ℕ)) (a held rest text : List ℕ) → text ≡ (a ++ held) ++ rest → Appends old mid a → AppendsFront mid new held → AppendsFront old new text
+front_written : (old mid new : Option (List ℕ)) (a held rest text : List ℕ) → text ≡ (a ++ held) ++ rest → Appends old mid a → AppendsFront mid new held → AppendsFront old new text
 front_written old mid new a held rest text is begun more =
     let front = front_of a held rest more.0 in
     (front.0, subst (Appends old new) (sym (ap (take front.0) is ∙ front.1)) (appends_more old mid new a (take more.0 held) begun more.1))

@@ -31,7 +31,7 @@ pub holds_none : (n : ℕ) (o : Option ℕ) → ((m : ℕ) → o ≡ Some m → 
 holds_none n None h = refl
 holds_none n (Some m) h = let ne = h m refl in grind (arith, nat_tests)
 
-pub holds_one : (n : ℕ) (o : Option ℕ) → o ≡ Some n → holds_ticket n o ≡ 1
+holds_one : (n : ℕ) (o : Option ℕ) → o ≡ Some n → holds_ticket n o ≡ 1
 holds_one n o e = ap (holds_ticket n) e ∙ grind (arith, nat_tests)
 
 -- who has a ticket has one

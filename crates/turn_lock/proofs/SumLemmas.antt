@@ -107,11 +107,11 @@ is_last j n e = grind (arith, nat_tests, e)
 is_not_last : (j n : ℕ) → suc n ≢ j → times j (suc n ∷ []) ≡ 0
 is_not_last j n ne = grind (arith, nat_tests, ne)
 
-pub number_above : (j n : ℕ) → n < j → times j (numbers_to n) ≡ 0
+number_above : (j n : ℕ) → n < j → times j (numbers_to n) ≡ 0
 number_above j zero lt = refl
 number_above j (suc n) lt = omega (arith, one_more j n, number_above j n (omega (arith, lt)), is_not_last j n (λ e. omega (arith, e, lt)))
 
-pub number_zero : (n : ℕ) → times 0 (numbers_to n) ≡ 0
+number_zero : (n : ℕ) → times 0 (numbers_to n) ≡ 0
 number_zero zero = refl
 number_zero (suc n) = omega (arith, one_more 0 n, number_zero n, is_not_last 0 n (λ e. omega (arith, e)))
 

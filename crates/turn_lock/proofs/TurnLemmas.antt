@@ -19,7 +19,7 @@ use Rattle.turn_lock.proofs.SumLemmas.{total_set, total_zero}
 use Rattle.turn_lock.proofs.HistoryLemmas.{sees_all, sees_own}
 use Rattle.turn_lock.proofs.RuleLemmas.{no_some, not_both, holds_none, has_some, few_tickets, moved, still_apart, alone, unserved_before, not_home, other_unserved, all_unserved, no_more, others_see}
 
-pub same_state : {T : Type 0} (x y : T) → ◌≡◌ {A = List (ℕ × Option T)} ((0, Some x) ∷ []) ((0, Some y) ∷ []) → x ≡ y
+same_state : {T : Type 0} (x y : T) → ◌≡◌ {A = List (ℕ × Option T)} ((0, Some x) ∷ []) ((0, Some y) ∷ []) → x ≡ y
 same_state {T} x y e = let p : ◌≡◌ {A = ℕ × Option T} (0, Some x) (0, Some y) = cc e in let q : Some x ≡ Some y = ap (λ (z : ℕ × Option T). z.1) p in cc q
 
 nothing_joined : {P : Type 0} → 0 < 0 → P

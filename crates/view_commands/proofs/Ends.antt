@@ -38,7 +38,7 @@ view_known (errors.NoGeneration number) = inl refl
 view_known (errors.Drive counts) = inr (inl refl)
 view_known errors.NoMemory = inr (inr (inl refl))
 
-pub isnt : (n m : ℕ) → IsOneOf n (3 ∷ 4 ∷ 7 ∷ []) → (3 ≡ m → ⊥) → (4 ≡ m → ⊥) → (7 ≡ m → ⊥) → n ≡ m → ⊥
+isnt : (n m : ℕ) → IsOneOf n (3 ∷ 4 ∷ 7 ∷ []) → (3 ≡ m → ⊥) → (4 ≡ m → ⊥) → (7 ≡ m → ⊥) → n ≡ m → ⊥
 isnt n m (inl is) three four seven same = three (sym is ∙ same)
 isnt n m (inr (inl is)) three four seven same = four (sym is ∙ same)
 isnt n m (inr (inr (inl is))) three four seven same = seven (sym is ∙ same)

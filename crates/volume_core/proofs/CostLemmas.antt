@@ -127,7 +127,7 @@ quiet_more : (e : Event) (events : List Event) → is_queued e ≡ false → wit
 quiet_more e events quiet same (no_op is) = no_op (ap (λ s. fold with_event s events) same ∙ is)
 quiet_more e events quiet same (an_op p is) = an_op p (rw (quiet, same) is)
 
-pub has_first : (events : List Event) → HasFirst events
+has_first : (events : List Event) → HasFirst events
 has_first [] = no_op refl
 has_first (Wants ticket place ∷ events) = quiet_more _ events refl refl (has_first events)
 has_first (Queues place ∷ events) = an_op place (of_group place [] events)
@@ -175,7 +175,7 @@ queued_more n events e le =
 -- ---- the walk
 
 -- a step that takes the head to a place
-pub went : (events : List Event) (e : Event) (old new : Walk) (past : Bool) (to : ℕ)
+went : (events : List Event) (e : Event) (old new : Walk) (past : Bool) (to : ℕ)
     → (after_all events).head.pos ≡ stand old.pos old.past
     → AreCosts events old.steps old.travel → Goes to past old new → new.first ≤ length events
     → length (filter_map step_to (e ∷ [])) ≡ 1 → distance (after_all events) e ≡ apart (after_all events).head.pos to
@@ -198,7 +198,7 @@ went events e old new past to stood costs goes within one far head stays = recor
 }
 
 -- one that leaves the ops that stand
-pub stepped : (events : List Event) (e : Event) (old new : Walk) (past : Bool) (to : ℕ) → IsWalked events old
+stepped : (events : List Event) (e : Event) (old new : Walk) (past : Bool) (to : ℕ) → IsWalked events old
     → Goes to past old new → length (filter_map step_to (e ∷ [])) ≡ 1
     → distance (after_all events) e ≡ apart (after_all events).head.pos to
     → (after (after_all events) e).head.pos ≡ stand to past
@@ -209,7 +209,7 @@ stepped events e old new past to walked goes one far head stays =
     (ap (λ n. with_event (queued_by (drop n events)) e) goes.first ∙ ap (λ s. with_event s e) walked.ops ∙ sym stays)
 
 -- an event that is no step
-pub quiet : (events : List Event) (e : Event) (w : Walk) → IsWalked events w
+quiet : (events : List Event) (e : Event) (w : Walk) → IsWalked events w
     → length (filter_map step_to (e ∷ [])) ≡ 0 → distance (after_all events) e ≡ 0
     → (after (after_all events) e).head ≡ (after_all events).head
     → standing_of (after (after_all events) e) ≡ with_event (standing_of (after_all events)) e
@@ -225,7 +225,7 @@ quiet events e w walked none far head stays = record {
   };
 }
 
-pub begins : IsWalked [] (record { first = 0; pos = 0; past = false; steps = 0; travel = 0 })
+begins : IsWalked [] (record { first = 0; pos = 0; past = false; steps = 0; travel = 0 })
 begins = record { within = omega arith; ops = refl; head = refl; costs = record { steps_are = refl; travel_is = refl } }
 
 turned : (a b : Bool) → a ≡ not b → not a ≡ b
@@ -344,7 +344,7 @@ behind_op : (op : Op) (place : Place) (flush : Bool) → op.place.pos ≡ place.
 behind_op op place true pos is = rw is (pos ∙ omega arith)
 behind_op op place false pos is = rw is (ap (λ n. n + 1) pos)
 
-pub worked_at : (xs : List Event) (place : Place) (old new : Walk) (flush : Bool) → IsWalked xs old
+worked_at : (xs : List Event) (place : Place) (old new : Walk) (flush : Bool) → IsWalked xs old
     → allows (after_all xs) (Worked place None) ≡ true
     → flush ≡ is_last place.part (drop (to_op (drop old.first xs)) (drop old.first xs))
     → Goes place.pos (not flush) (record old { first = old.first + to_op (drop old.first xs) }) new

@@ -44,7 +44,7 @@ can_do_first drive ops d op later can first =
     (can.way c held))))
 
 -- and then the others
-pub can_do_others : {D : Type 0} (drive : Ghosts D) (ops : List Op) (old new : D) (op : Op) (later : List Op) (end :
+can_do_others : {D : Type 0} (drive : Ghosts D) (ops : List Op) (old new : D) (op : Op) (later : List Op) (end :
     StepDone)
     → CanDoAll drive ops old → ops ≡ op ∷ later → IsOpStep drive op end old new → IsWell end → CanDoAll drive later new
 can_do_others {D} drive ops old new op later end can first step well = record {
@@ -94,11 +94,11 @@ can_go_on drive standing left later op mid new can first did =
     subst (λ (l : List Op). CanDoAll drive l new) (sym did.3)
     (can_do_others drive standing mid new op later did.0 can first did.1 did.2)
 
-pub is_less : (standing left later : List Op) (op : Op) → standing ≡ op ∷ later → left ≡ later
+is_less : (standing left later : List Op) (op : Op) → standing ≡ op ∷ later → left ≡ later
     → length left + 1 ≡ length standing
 is_less standing left later op first is = omega (arith, ap length first, ap length is)
 
-pub fails_then : {D : Type 0} (drive : Ghosts D) (ops standing later : List Op) (op : Op) (old mid new : D) (counts :
+fails_then : {D : Type 0} (drive : Ghosts D) (ops standing later : List Op) (op : Op) (old mid new : D) (counts :
     Twin)
     → DoesOps drive ops old standing mid → standing ≡ op ∷ later → IsOpStep drive op (outcome.Failed counts) mid new
     → FailsOp drive ops old new counts
@@ -110,7 +110,7 @@ fails_then drive ops standing later op old mid new counts run first failed = rec
   failed = failed;
 }
 
-pub all_done : {D : Type 0} (drive : Ghosts D) (ops standing : List Op) (old mid : D)
+all_done : {D : Type 0} (drive : Ghosts D) (ops standing : List Op) (old mid : D)
     → DoesOps drive ops old standing mid → length standing ≤ 0 → DoesOps drive ops old [] mid
 all_done drive ops standing old mid run none = subst (λ (l : List Op). DoesOps drive ops old l mid) (nothing standing
     none) run

@@ -242,7 +242,7 @@ between_one_more : (ks : List Construct) (from mark pos : ℕ) → AreBetween fr
 between_one_more [] from mark pos b lt = (b, refl, omega (arith, lt), omega arith)
 between_one_more (k ∷ ks) from mark pos b lt = (b.0, b.1, b.2, between_one_more ks k.after mark pos b.3 lt)
 
-pub begun_in_order : (capacity : ℕ) (r : Reading) → 4 ≤ capacity → r.constructs ≡ [] → r.opened ≡ None → r.pos ≡ 4 → IsInOrder capacity r
+begun_in_order : (capacity : ℕ) (r : Reading) → 4 ≤ capacity → r.constructs ≡ [] → r.opened ≡ None → r.pos ≡ 4 → IsInOrder capacity r
 begun_in_order capacity r le constructs opened pos = record {
   constructs =
       subst (λ (ks : List Construct). AreBetween 4 (lead_at r.opened r.pos) ks) (sym constructs)
@@ -290,7 +290,7 @@ module _ (capacity : ℕ) (old new : Reading) (lt : old.pos < capacity) where
   goes_in_order got.End order goes = absurd goes
   goes_in_order got.Torn order goes = absurd goes
 
-pub all_in_places : (capacity : ℕ) (r : Reading) (found : Content) → IsInOrder capacity r → found.constructs ≡ r.constructs
+all_in_places : (capacity : ℕ) (r : Reading) (found : Content) → IsInOrder capacity r → found.constructs ≡ r.constructs
     → found.lead ≡ lead_at r.opened r.pos → found.front ≡ r.pos → IsInPlaces capacity found
 all_in_places capacity r found order constructs lead front_is = record {
   constructs = subst (λ (ks : List Construct). AreBetween 4 found.lead ks) (sym constructs) (subst (λ (n : ℕ). AreBetween 4 n r.constructs) (sym lead) order.constructs);

@@ -21,7 +21,7 @@ lead_is before lead None = omega (arith, length-map lead Block)
 lead_is before lead (Some begun) = refl
 
 -- a partition that is read to the end of its front has the form
-pub has_form : (items : List Item) → ((at : ℕ) → (content items).phase ≢ Bad at) → HasForm items
+has_form : (items : List Item) → ((at : ℕ) → (content items).phase ≢ Bad at) → HasForm items
 has_form items sound =
     ⊎_elim
     (λ (f : HasForm items). f)
@@ -70,7 +70,7 @@ read_told items found long r =
     }
 
 -- and the other way
-pub told_read : (items : List Item) (found : Content) → 4 ≤ length (front items) → IsContent items found → IsRead items found
+told_read : (items : List Item) (found : Content) → 4 ≤ length (front items) → IsContent items found → IsRead items found
 told_read items found long told =
     let sound : (at : ℕ) → (content items).phase ≢ Bad at = λ at bad. never_both items at told.form (lacks_form items at bad) in
     record {

@@ -18,7 +18,7 @@ use Rattle.state_laws.specs.Placing.{IsVoidFor}
 use Rattle.volume_steps.specs.Asking.{Reserves, told_void}
 use Rattle.volume_steps.proofs.ChangeLemmas.{DoneAlways}
 
-pub change_told : (call : Call) (at : Moment) (stock next : Stocked) (error : AdmitErr)
+change_told : (call : Call) (at : Moment) (stock next : Stocked) (error : AdmitErr)
     → ((early : Tape) (g : Given) (on : Bool) (st : Standing) → IsStock early g on st stock
     → IsApplied early g on st call at stock next (Err error))
     → IsVoidFor stock call at (told_void error)

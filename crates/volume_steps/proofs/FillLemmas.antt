@@ -22,18 +22,18 @@ use Rattle.volume_steps.specs.Wanted.{AreTakenFrom, HasHeld, HasKept, IsTakenFro
 
 -- ---- places
 
-pub or_first : (a b : Bool) → a ≡ true → (a || b) ≡ true
+or_first : (a b : Bool) → a ≡ true → (a || b) ≡ true
 or_first true b e = refl
 or_first false b e = absurd cc
 
-pub or_second : (a b : Bool) → b ≡ true → (a || b) ≡ true
+or_second : (a b : Bool) → b ≡ true → (a || b) ≡ true
 or_second true b e = refl
 or_second false b e = e
 
 -- ---- which of the places are held
 
 -- a place of the list passes the test, or fails it
-pub has_passed : (test : Place → Bool) (place : Place) (places : List Place) → has_place place places ≡ true
+has_passed : (test : Place → Bool) (place : Place) (places : List Place) → has_place place places ≡ true
     → test place ≡ true → has_place place (filter test places) ≡ true
 has_passed test place [] has pass = absurd cc
 has_passed test place (x ∷ xs) has pass = by (same_place place x) refl (has_passed test place xs)
@@ -52,7 +52,7 @@ has_passed test place (x ∷ xs) has pass = by (same_place place x) refl (has_pa
     by false is rest = later (test x) (rest (sym (ap (λ t. t || has_place place xs) is) ∙ has) pass)
 
 -- one that fails isn't left
-pub has_failed : (test : Place → Bool) (place : Place) (places : List Place) → test place ≡ false
+has_failed : (test : Place → Bool) (place : Place) (places : List Place) → test place ≡ false
     → has_place place (filter test places) ≡ false
 has_failed test place [] fails = refl
 has_failed test place (x ∷ xs) fails = by (test x) refl (has_failed test place xs fails)
@@ -124,7 +124,7 @@ taken_begins ops cached g wanted found = record {
 }
 
 -- a block is kept where its bytes are found
-pub cached_has : (cached : List Kept) (place : Place) → is_cached cached place ≡ is_some (bytes_at cached place)
+cached_has : (cached : List Kept) (place : Place) → is_cached cached place ≡ is_some (bytes_at cached place)
 cached_has [] place = refl
 cached_has (block ∷ cached) place = by (same_place place block.0) (cached_has cached place)
   where

@@ -34,7 +34,7 @@ syncs_after : (op : Option waiting.Op) (st : State) → (after_op op st).syncs �
 syncs_after None st = refl
 syncs_after (Some op) st = syncs_without st
 
-pub syncs_worked : (st : State) (place : Place) → (after st (Worked place None)).syncs ≡ st.syncs
+syncs_worked : (st : State) (place : Place) → (after st (Worked place None)).syncs ≡ st.syncs
 syncs_worked st place = syncs_after (waiting_op st) st
 
 -- the syncs that waited still wait

@@ -36,7 +36,7 @@ kind_alone : (who : ℕ) (m : Mark) (b : Bool) → (m.who == who) ≡ b → b �
 kind_alone who m true is so = rw is refl
 kind_alone who m false is so = cc
 
-pub phase_here : (who : ℕ) (marks : List Mark) (kind : MarkKind) → phase who (marks ++ mark who kind ∷ []) ≡ after (phase who marks) kind
+phase_here : (who : ℕ) (marks : List Mark) (kind : MarkKind) → phase who (marks ++ mark who kind ∷ []) ≡ after (phase who marks) kind
 phase_here who marks kind =
     ap (λ (ks : List MarkKind). fold after idle ks)
     (ap (λ (ms : List Mark). map (λ (x : Mark). x.kind) ms) (filter-append (λ (x : Mark). x.who == who) marks (mark who kind ∷ []))
@@ -52,7 +52,7 @@ pub none_yet : (old mid : Listed) (here : ℕ) → length old.replies ≡ length
 none_yet old mid here each here_is is =
     ap (λ (rs : List (Option Reply)). slice_get rs here) is ∙ seam old.replies None here (each ∙ sym here_is)
 
-pub told_all : (old mid now : Listed) (here : ℕ) (reply : Reply) → length old.replies ≡ length old.history → here ≡ length old.history
+told_all : (old mid now : Listed) (here : ℕ) (reply : Reply) → length old.replies ≡ length old.history → here ≡ length old.history
     → mid.replies ≡ old.replies ++ None ∷ [] → now.replies ≡ slice_set mid.replies here (Some reply)
     → now.replies ≡ old.replies ++ Some reply ∷ []
 told_all old mid now here reply each here_is is set =

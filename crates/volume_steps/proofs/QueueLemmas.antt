@@ -77,7 +77,7 @@ pub record Queuing (places : List Place) (done : ℕ) (old new : Journaled) : Ty
 abbrev pub places_behind : ℕ → List Op → List Place
 places_behind others ops = map place_of (drop others ops)
 
-pub places_length : (others : ℕ) (ops : List Op) → length (places_behind others ops) ≡ length ops - others
+places_length : (others : ℕ) (ops : List Op) → length (places_behind others ops) ≡ length ops - others
 places_length others ops = length-map (drop others ops) place_of ∙ length-drop others ops
 
 -- none is queued at first

@@ -25,7 +25,7 @@ both_second true b is = is
 both_second false b is = absurd cc
 
 -- each request may come behind those before it
-pub allowed_at : (ticket : ℕ) (places : List Place) (i : ℕ) (d : Place) (st : State) → i < length places
+allowed_at : (ticket : ℕ) (places : List Place) (i : ℕ) (d : Place) (st : State) → i < length places
     → is_trail_from st (wants_at ticket places) ≡ true
     → allows (fold after st (wants_at ticket (take i places))) (the_events.Wants ticket (get_or places i d)) ≡ true
 allowed_at ticket [] i d st lt may = absurd (omega (arith, lt))

@@ -53,7 +53,7 @@ placed_using who nth at fate reply old mid new cached r p = record {
   sessions = p.sessions ∙ r.sessions;
 }
 
-pub placed_over : {D : Type 0} (who nth : ℕ) (at : Moment) (fate : Fate) (reply : Option Reply) (old mid new : Parts D)
+placed_over : {D : Type 0} (who nth : ℕ) (at : Moment) (fate : Fate) (reply : Option Reply) (old mid new : Parts D)
     → Reserves old mid → PlacesCall who nth at fate reply mid new → PlacesCall who nth at fate reply old new
 placed_over who nth at fate reply old mid new r p = placed_using who nth at fate reply old mid new mid.cached r p
 

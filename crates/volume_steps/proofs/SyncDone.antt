@@ -93,7 +93,7 @@ sync_room_none r stock due spare is room =
 
 -- ---- what is queued
 
-pub can_after : {D : Type 0} (who : ℕ) (places : List Place) (mid : Journaled) (p : Parts D) → CanAsk who p → Queues places p.trail mid
+can_after : {D : Type 0} (who : ℕ) (places : List Place) (mid : Journaled) (p : Parts D) → CanAsk who p → Queues places p.trail mid
     → CanAsk who (record p { trail = mid })
 can_after who places mid p can q = record { place = can.place; trail = q.trail; none_due = q.none_due }
 

@@ -30,7 +30,7 @@ is_number a b e = grind (arith, nat_tests, e)
 pub after_more : (events : List Event) (e : Event) → after_all (events ++ e ∷ []) ≡ after (after_all events) e
 after_more events e = fold-append after start events (e ∷ [])
 
-pub get_other : {X : Type 0} (xs : List X) (at k : ℕ) (x : X) → k ≢ at → slice_get (slice_set xs at x) k ≡ slice_get xs k
+get_other : {X : Type 0} (xs : List X) (at k : ℕ) (x : X) → k ≢ at → slice_get (slice_set xs at x) k ≡ slice_get xs k
 get_other [] at k x apart = refl
 get_other (y ∷ ys) zero zero x apart = absurd (apart refl)
 get_other (y ∷ ys) zero (suc k) x apart = refl
@@ -71,7 +71,7 @@ any_left t ticket (s ∷ xs) e = by (any_left t ticket xs) (s.ticket == ticket) 
 
 -- ---- the sync that is due
 
-pub due_is_first : (done ticket : ℕ) (syncs : List Waiter) → due_of done syncs ≡ Some ticket → list_any (is_at ticket) syncs ≡ true
+due_is_first : (done ticket : ℕ) (syncs : List Waiter) → due_of done syncs ≡ Some ticket → list_any (is_at ticket) syncs ≡ true
 due_is_first done ticket [] e = absurd (let wrong : None ≡ Some ticket = e in cc)
 due_is_first done ticket (s ∷ more) e = by (nat_le s.due done) refl
   where
@@ -82,11 +82,11 @@ due_is_first done ticket (s ∷ more) e = by (nat_le s.due done) refl
         ap (λ b. b || list_any (is_at ticket) more) (ap (λ n. n == ticket) is ∙ same_number ticket)
     by false g = let wrong : None ≡ Some ticket = rw g at e in cc
 
-pub no_reply : (st : State) (told : List (Option Reply)) (ticket : ℕ) → SyncsWait st told → due_of st.done st.syncs ≡ Some ticket
+no_reply : (st : State) (told : List (Option Reply)) (ticket : ℕ) → SyncsWait st told → due_of st.done st.syncs ≡ Some ticket
     → slice_get told ticket ≡ Some None
 no_reply st told ticket waits due = waits ticket (due_is_first st.done ticket st.syncs due)
 
-pub others_wait : (st : State) (told : List (Option Reply)) (ticket : ℕ) (reply : Reply) → SyncsWait st told
+others_wait : (st : State) (told : List (Option Reply)) (ticket : ℕ) (reply : Reply) → SyncsWait st told
     → SyncsWait (after st (Synced ticket)) (replied ticket reply told)
 others_wait st told ticket reply waits t there =
     let stays : Stays t ticket st.syncs = any_left t ticket st.syncs there in
@@ -123,7 +123,7 @@ all_synced_more : (tickets : List ℕ) (ticket : ℕ) (told : List (Option Reply
 all_synced_more [] ticket told = refl
 all_synced_more (t ∷ tickets) ticket told = all_synced_more tickets ticket (replied t (the_replies.Answer the_answers.Synced) told)
 
-pub none_answered : {D : Type 0} (commands : ℕ) (p : Parts D) → AnswersSome commands [] p p
+none_answered : {D : Type 0} (commands : ℕ) (p : Parts D) → AnswersSome commands [] p p
 none_answered commands p = record {
   drive = refl;
   stock = refl;
@@ -154,7 +154,7 @@ pub record AnswersOne {D : Type 0} (commands ticket : ℕ) (old new : Parts D) :
   pub reads : new.reads ≡ old.reads
   pub cached : new.cached ≡ old.cached
 
-pub one_more_answered : {D : Type 0} (commands ticket : ℕ) (tickets : List ℕ) (old mid new : Parts D)
+one_more_answered : {D : Type 0} (commands ticket : ℕ) (tickets : List ℕ) (old mid new : Parts D)
     → AnswersSome commands tickets old mid → AnswersOne commands ticket mid new → AnswersSome commands (tickets ++ ticket ∷ []) old new
 one_more_answered commands ticket tickets old mid new a b = record {
   drive = b.drive ∙ a.drive;

@@ -105,7 +105,7 @@ within_from : (st : State) (events : List Event) → AreWithin st → AreWithin 
 within_from st [] all = all
 within_from st (e ∷ later) all = within_from (after st e) later (within_one st e all)
 
-pub syncs_within : (events : List Event) → AreWithin (after_all events)
+syncs_within : (events : List Event) → AreWithin (after_all events)
 syncs_within events = within_from start events tt
 
 -- so none waits where no op stands and none is due
@@ -117,7 +117,7 @@ none_left done n (s ∷ more) none all due = absurd (by (nat_le s.due done) refl
     by true e = let there : due_of done (s ∷ more) ≡ Some s.ticket = rw e refl in let off : Some s.ticket ≡ None = sym there ∙ due in cc
     by false e = omega (arith, leb-false s.due done e, all.0, none)
 
-pub none_waits : (events : List Event) → length (ops (after_all events)) ≡ 0 → due_ticket (after_all events) ≡ None
+none_waits : (events : List Event) → length (ops (after_all events)) ≡ 0 → due_ticket (after_all events) ≡ None
     → (after_all events).syncs ≡ []
 none_waits events none due = none_left (after_all events).done (length (ops (after_all events))) (after_all events).syncs none
     (syncs_within events) due

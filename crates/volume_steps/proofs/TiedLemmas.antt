@@ -23,7 +23,7 @@ use Rattle.state_laws.specs.Tied.{AreFilesRight, IsTied}
 use Rattle.volume_steps.specs.Wanted.{TiedReadsMayWant}
 
 -- no mark is put where a block of the tree stands
-pub no_marks : (files : Files) (ends : Ends) (ops : List Op) (tree : FileTree) → LieAs files tree → AreFilesRight files ends ops
+no_marks : (files : Files) (ends : Ends) (ops : List Op) (tree : FileTree) → LieAs files tree → AreFilesRight files ends ops
     → NoMarks ops tree
 no_marks files ends ops tree lie right part pos s put =
     right.bytes part pos (record {
@@ -44,7 +44,7 @@ none_at here (r ∷ rs) all =
     ∙ none_at here rs (All-tail (λ (q : Request). q.ticket < here) r rs all)
 
 -- each request is of a call that was placed
-pub tickets_within : {D : Type 0} (drive : Ghosts D) (fixed : Fixed D) (planned : Items) (p : Parts D) → IsTied drive fixed planned p
+tickets_within : {D : Type 0} (drive : Ghosts D) (fixed : Fixed D) (planned : Items) (p : Parts D) → IsTied drive fixed planned p
     → All (λ (r : Request). r.ticket < length p.listed.history) (state p.trail).requests
 tickets_within drive fixed planned p tied k d lt =
     let asked = tied.reads.asked k d lt in

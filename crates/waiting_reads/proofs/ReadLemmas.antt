@@ -38,7 +38,7 @@ filled_by place block ticket pieces before next whole old is fills long =
     so_far tape read false f = f
 
 -- a byte that is lost stays so
-pub stays_lost : (place : Place) (block : List ℕ) (ticket : ℕ) (pieces : List Piece) (bytes : List ℕ) (whole : Bool) (old : Gathering)
+stays_lost : (place : Place) (block : List ℕ) (ticket : ℕ) (pieces : List Piece) (bytes : List ℕ) (whole : Bool) (old : Gathering)
     → gathering ticket pieces bytes whole ≡ old → whole ≡ false → IsFilledBy place block old (gathering ticket pieces bytes whole)
 stays_lost place block ticket pieces bytes true old is lost = cc
 stays_lost place block ticket pieces bytes false old is lost =
@@ -53,7 +53,7 @@ got ticket pieces bytes true g is good = subst (λ g. IsAnswered g (answers.Got 
     (λ tape read has each. sym (ap got_or_damaged (replies_gather.ends tape read pieces bytes each has.has)))
 
 -- and where one was
-pub damaged : (ticket : ℕ) (pieces : List Piece) (bytes : List ℕ) (whole : Bool) (g : Gathering) → gathering ticket pieces bytes whole ≡ g → whole ≡ false
+damaged : (ticket : ℕ) (pieces : List Piece) (bytes : List ℕ) (whole : Bool) (g : Gathering) → gathering ticket pieces bytes whole ≡ g → whole ≡ false
     → IsAnswered g (answers.Refused refusals.Damaged)
 damaged ticket pieces bytes true g is lost = cc
 damaged ticket pieces bytes false g is lost = subst (λ g. IsAnswered g (answers.Refused refusals.Damaged)) is

@@ -53,7 +53,7 @@ head_at (suc i) (q ∷ pieces) p more e =
     record { lt = omega (arith, h.lt); is = h.is; rest = ap (λ n. drop n (q ∷ pieces)) next ∙ h.rest }
 
 -- each is where its piece is
-pub each_stands : (pieces : List Piece) (i at : ℕ) (rest : List Piece) → drop i pieces ≡ rest → at ≡ size_of (take i pieces)
+each_stands : (pieces : List Piece) (i at : ℕ) (rest : List Piece) → drop i pieces ≡ rest → at ≡ size_of (take i pieces)
     → All (IsStand pieces) (stands_from i at rest)
 each_stands pieces i at [] e begins = λ k d lt. absurd (omega (arith, lt))
 each_stands pieces i at (Zeros count ∷ rest) e begins =
@@ -82,7 +82,7 @@ run_stands pieces stands run pos are is =
     (All-filter (λ (s : Stand). eqb s.pos pos) (IsStand pieces) (stands_from 0 0 pieces) (each_stands pieces 0 0 pieces refl refl))
 
 -- one piece more has its bytes behind the others
-pub size_more : (pieces : List Piece) (p : Piece) → size_of (pieces ++ p ∷ []) ≡ size_of pieces + bytes_in p
+size_more : (pieces : List Piece) (p : Piece) → size_of (pieces ++ p ∷ []) ≡ size_of pieces + bytes_in p
 size_more [] p = omega arith
 size_more (q ∷ pieces) p = omega (arith, size_more pieces p)
 
@@ -139,7 +139,7 @@ kept pos (suc k) (x ∷ xs) on off =
     (λ i d le within. off (suc i) d (omega (arith, le)) (omega (arith, within))))
     ∙ sym (ap (λ b. cond b (x ∷ at_pos pos xs) (at_pos pos xs)) (on 0 x (omega arith) (omega arith)))
 
-pub run_is : (pos : ℕ) (stands : List Stand) (first last : ℕ)
+run_is : (pos : ℕ) (stands : List Stand) (first last : ℕ)
     → IsPartitionPoint (λ (s : Stand). ltb s.pos pos ≡ true) (λ (s : Stand). ltb s.pos pos ≡ false) stands first
     → IsPartitionPoint (λ (s : Stand). leb s.pos pos ≡ true) (λ (s : Stand). leb s.pos pos ≡ false) (drop first stands) last
     → take last (drop first stands) ≡ at_pos pos stands

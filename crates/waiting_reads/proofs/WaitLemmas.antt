@@ -13,7 +13,7 @@ at_place ticket k [] d lt is = absurd (omega (arith, lt))
 at_place ticket zero (g ∷ reads) d lt is = is
 at_place ticket (suc k) (g ∷ reads) d lt is = at_place ticket k reads d (omega (arith, lt)) is
 
-pub stands : (ticket k : ℕ) (reads : List Gathering) (one : Gathering) → k < length reads → has_ticket ticket (take k reads) ≡ false
+stands : (ticket k : ℕ) (reads : List Gathering) (one : Gathering) → k < length reads → has_ticket ticket (take k reads) ≡ false
     → IfSome (slice_get reads k) (λ g. g.ticket ≡ ticket) → one ≡ get_or reads k one → StandsAt ticket reads (take k reads) one (drop (k + 1) reads)
 stands ticket k reads one lt before here is = record {
   parts = sym (take-append-drop k reads) ∙ ap (λ l. take k reads ++ l) (drop_more reads k one lt ∙ ap (λ g. g ∷ drop (k + 1) reads) (sym is));
