@@ -71,6 +71,7 @@ fn find_tree<D: Drive>(alloc: Global, drive: &mut D) -> Result<FoundTree, MountE
     ensures looks { Looks D.Drive
         (mount_most (D.limits drive.old) * D.MOST) drive.old drive.new }
 {
+    // The capacities are in their range.
     let _capacities_are_in_range = drive.limits();
     let mounted = match mount(alloc, drive) {
         Ok(mounted) => mounted,

@@ -51,6 +51,7 @@ impl BlockCache {
     pub fn used(&mut self, place: Place)
         ensures { self.new ≡ used self.old place }
     {
+        // At most so many blocks are kept as there may be.
         let _count = self.blocks.len();
         let _there = self.blocks.promote(&place);
     }
@@ -61,6 +62,7 @@ impl BlockCache {
         ensures kept { (self.new ≡ with_block place bytes self.old) ⊎ (self.new ≡ self.old) }
         ensures again { is_cached self.old place ≡ true → self.new ≡ with_block place bytes self.old }
     {
+        // At most so many blocks are kept as there may be.
         let _count = self.blocks.len();
         match self.blocks.put(place, bytes) {
             Ok(_) => (),

@@ -56,6 +56,7 @@ impl ByteDisk for MemDisk {
         ensures looked { Looked result self.old self.new }
         ensures sane { IsSane self.old }
     {
+        // What is kept of the commands leads back to what was before them.
         let _sound = self.acts();
         self.fill(file, at, buf)
     }
@@ -67,6 +68,7 @@ impl ByteDisk for MemDisk {
         ensures sane { IsSane self.old }
         ensures bytes { AreBytes bytes.now }
     {
+        // What is kept of the commands leads back to what was before them.
         let _sound = self.acts();
         are_bytes(bytes);
         self.overwrite(file, at, bytes)

@@ -23,6 +23,7 @@ impl MemDisk {
             (record { ip = ip.now; dp = dp.now; cm = cm.now })) []) }
         ensures left { IfOk result (λ d. ⟦<MemDisk as ByteDisk>⟧.leaves self.now d.held) }
     {
+        // What is kept of the commands leads back to what was before them.
         let _sound = self.acts();
         are_bytes(ip);
         are_bytes(dp);
@@ -126,6 +127,7 @@ pub fn crash_gives_all(disk: &MemDisk)
     ensures choices { (image : Files)
         → ⟦<MemDisk as ByteDisk>⟧.leaves disk.now image ↔ Gives disk.now.held disk.now.acts image }
 {
+    // What is kept of the commands leads back to what was before them.
     let _sound = disk.acts();
 }
 
@@ -135,6 +137,7 @@ pub fn since_gives_all(disk: &MemDisk)
     ensures { (t : ℕ) (image : Files)
         → ⟦<MemDisk as ByteDisk>⟧.left_since disk.now t image ↔ GaveSince disk.now.held disk.now.acts t image }
 {
+    // What is kept of the commands leads back to what was before them.
     let _sound = disk.acts();
 }
 
@@ -142,5 +145,6 @@ pub fn since_gives_all(disk: &MemDisk)
 pub fn files_are_told(disk: &MemDisk)
     ensures { ⟦<MemDisk as ByteDisk>⟧.held disk.now ≡ Some disk.now.held }
 {
+    // What is kept of the commands leads back to what was before them.
     let _sound = disk.acts();
 }

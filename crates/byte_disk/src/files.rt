@@ -80,6 +80,7 @@ pub(crate) fn are_bytes(bytes: &[u8])
     ensures { AreBytes bytes.now }
 {
     for byte in bytes {
+        // It is below 256.
         let _byte = *byte;
     }
 }

@@ -133,6 +133,7 @@ fn decode(alloc: Global, text: Text, percent: bool) -> Result<Option<Text>, NoMe
         (λ name. (name ≡ decoded percent text) × (is_utf8 (decoded percent text) ≡ true))) }
 {
     if !percent {
+        // A text is UTF-8.
         let _utf8 = text.as_str();
         return Ok(Some(text));
     }

@@ -254,6 +254,7 @@ fn run_text(alloc: Global, ended: bool, at: usize, run: &[u8]) -> Result<Text, F
     let Ok(front) = str::from_utf8(&run[..fault]) else {
         unreachable!()
     };
+    // A reference before the fault is refused first.
     let _read = resolve(alloc, false, at, front)?;
     Err(syntax(at + fault))
 }

@@ -14,5 +14,6 @@ pub fn an_owner_allows_the_promise()
 pub fn an_owner_forbids_erasing<D: Drive>(drive: &D)
     ensures { ForbidsErasing (D.leaves drive.now) }
 {
+    // What is said of a drive holds of this one.
     let _drive = drive;
 }

@@ -228,6 +228,7 @@ fn both_in(tree: &Tree, up: &[Text], name: &Text) -> Result<(u32, u32), Refusal>
         ∷ why_no_dir (plain_of whole tree.now).nodes up.now ∷ []))
         tree.now (up.now ++ name.now ∷ []) up.now result }
 {
+    // The tree is good.
     let _good = tree.count();
     match dir_at(tree, up) {
         Ok(dir) => match tree.child(dir, name) {

@@ -127,6 +127,7 @@ impl Places {
         requires { IsThere self.now.nodes dir }
         ensures { IfOk result (λ numbers. IsRunOf self.now.nodes dir numbers.items) }
     {
+        // The store holds the nodes that are shown.
         let _shown = self.store.spots();
         self.names.numbers(alloc, dir)
     }
@@ -135,6 +136,7 @@ impl Places {
     fn numbers(&self, alloc: Global) -> Result<Vec<u32>, NoMemory>
         ensures { IfOk result (λ numbers. numbers.items ≡ map (λ e. e.1.number) (fin.entries self.now.nodes)) }
     {
+        // The store holds the nodes that are shown.
         let _shown = self.store.spots();
         let mut numbers = Vec::new(alloc);
         let mut open = vec![in alloc; 0u32; 1]?;
@@ -152,6 +154,7 @@ impl Places {
         ensures { IfOk result (λ name. (path : Path) → number_at self.now.nodes path ≡ Some number
             → name ≡ name_or volume.now (last_name path)) }
     {
+        // No two paths lead to one number.
         let _shown = self.store.len();
         if number == 0 {
             return Ok(volume.try_clone(alloc)?);
@@ -240,6 +243,7 @@ impl Places {
         ensures { (path : Path) → number_at self.now.nodes path ≡ Some dir
             → number_at self.now.nodes (path ++ name.now ∷ []) ≡ result }
     {
+        // The store holds the nodes that are shown.
         let _shown = self.store.spots();
         let bytes = name.as_str().as_bytes();
         let likely = match self.names.near(dir, bytes) {
@@ -255,6 +259,7 @@ impl Places {
         ensures { (path : Path) → number_at self.now.nodes path ≡ Some dir
             → result ≡ nat_lt 0 (length (entries_in (plain_nodes whole self.now.nodes) path)) }
     {
+        // The store holds the nodes that are shown.
         let _shown = self.store.spots();
         self.names.has_any(dir)
     }
@@ -276,6 +281,7 @@ impl Places {
         ensures missing { IfErr result (λ number. IsLast self.now.nodes path.now number) }
     {
         let mut number = 0;
+        // No two paths lead to one number.
         let _shown = self.store.len();
         for name in path {
             match self.step(number, name) {
@@ -307,6 +313,7 @@ impl Places {
         ensures fresh { (path : Path) → number_at self.old.nodes path ≢ Some result }
         ensures room { self.old.spare ≤ self.new.spare + 1 }
     {
+        // The store holds the nodes that are shown.
         let _shown = self.store.spots();
         let number = store_node(&mut self.store, &mut self.free, dir, name, node);
         let spots = self.store.spots();

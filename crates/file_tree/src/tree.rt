@@ -249,6 +249,7 @@ impl Tree {
         ensures volume { KeepsVolume self.old self.new }
         ensures room { self.old.spare ≤ self.new.spare + 1 }
     {
+        // A name is UTF-8.
         let _is_text = name.as_str();
         let uid = self.highest + 1;
         let kind = new_kind(self.alloc, sort, self.block_size);
@@ -289,6 +290,7 @@ impl Tree {
         ensures volume { KeepsVolume self.old self.new }
         ensures room { self.new.spare ≡ self.old.spare }
     {
+        // A name is UTF-8.
         let _is_text = name.as_str();
         let old = self.places.parent(number);
         self.places.shift(number, dir, name);
@@ -336,6 +338,7 @@ impl Tree {
         ensures volume { KeepsVolume self.old self.new }
         ensures room { self.new.spare ≡ self.old.spare }
     {
+        // No two paths lead to one number.
         let _numbers_differ = self.places.len();
         self.places.change(file, NodeChange::Overlay(new), at);
     }

@@ -40,6 +40,7 @@ fn plan(
     requires { (room : Room) × HasExtents tree.now.nodes file room }
     ensures { IfOk result (ArePlanned tree.now file offset count) }
 {
+    // The tree is good.
     let _tree_is_good = tree.count();
     let extents = tree.extents(file);
     let from = offset.min(extents.length());

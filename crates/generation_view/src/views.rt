@@ -158,6 +158,7 @@ impl<D: Drive> View<D> {
         ensures { IsReadBy D.Drive (length (blocks_read self.now.tree path offset count))
             (λ c. answer (plain_of (tape_of c) self.now.tree) (Read path offset count)) drive.old drive.new result }
     {
+        // The number of commands is in its range.
         let _commands_are_in_range = drive.commands();
         match file_at(&self.tree, path.as_slice()) {
             Ok(file) => read_file(alloc, &self.tree, drive, file, offset, count),

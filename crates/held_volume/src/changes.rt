@@ -46,8 +46,10 @@ fn make_in(tree: &mut Tree, dir: u32, name: Text, sort: Sort, at: Moment)
     requires { CanMake tree.old dir name sort }
     ensures { (c : CanMake tree.old dir name sort) → IsStep c.call at tree.old tree.new }
 {
+    // The tree is good.
     let _count = tree.count();
     let _number = tree.make(dir, name, sort, at);
+    // And it is good behind that.
     let _count_now = tree.count();
 }
 
@@ -58,6 +60,7 @@ pub fn remove(tree: &mut Tree, path: &[Text], at: Moment) -> Result<bool, Refusa
     match bare_at(tree, path) {
         Ok(number) => {
             tree.unlink(number, at);
+            // The tree is good.
             let _count = tree.count();
             Ok(true)
         }
@@ -82,8 +85,10 @@ pub fn rename(
     match find_move(tree, alloc, from, to)? {
         Ok(Move::Into { number, dir }) => {
             let name = name.try_clone(alloc)?;
+            // The tree is good.
             let _count = tree.count();
             tree.move_to(number, dir, name, at);
+            // And it is good behind that.
             let _count_now = tree.count();
             Ok(Ok(true))
         }
@@ -110,11 +115,13 @@ fn set_length(tree: &mut Tree, file: u32, length: u64, at: Moment) -> bool
         → refusal_of (plain_of whole tree.old) (asks.Truncate path length) ≡ None
         → IsTreeStep (asks.Truncate path length) at result tree.old tree.new }
 {
+    // The tree is good.
     let _count = tree.count();
     if tree.extents(file).length() == length {
         return false;
     }
     tree.set_length(file, length, at);
+    // And it is good behind that.
     let _count_now = tree.count();
     true
 }

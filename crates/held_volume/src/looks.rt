@@ -63,6 +63,7 @@ pub fn plan(
         → IsStock tape g on st (stocked tree.now l f) → IsReadPlan tape st tree.now path offset count pieces) }
     ensures most { IfOk result (λ pieces. IsPlanOfAtMost tree.now.block_size count pieces) }
 {
+    // The tree is good.
     let _count = tree.count();
     let extents = tree.extents(file);
     let from = offset.min(extents.length());

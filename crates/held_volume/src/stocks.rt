@@ -72,6 +72,7 @@ impl Stock {
         let letters = (mounted.label.index, mounted.label.dpart);
         let block = mounted.label.block;
         let tree = Tree::from_index(alloc, &mounted.index, letters, block)?;
+        // The tree is good.
         let _count = tree.count();
         let carried = Carried::of_index(alloc, &mounted.index)?;
         let layout = Layout::new(
@@ -210,6 +211,7 @@ impl Stock {
         ensures { (tape : Tape) (g : Given) (on : Bool) (st : Standing) → IsStock tape g on st self.now
             → BringsAtMost (rules g) on st.space (length bytes.now) result }
     {
+        // The tree is good.
         let _count = self.tree.count();
         most_ops(bytes, self.frame.label.block.max(1))
     }

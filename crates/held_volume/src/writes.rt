@@ -74,8 +74,10 @@ fn write_at(
     if bytes.is_empty() {
         return Ok(());
     }
+    // The ends are near enough, and the ops stand before them.
     let _ends = layout.ends();
     let reserved = tree.reserve_extent(file);
+    // The tree is good.
     let _count = tree.count();
     if reserved.is_err() {
         return Err(AdmitErr::NoMemory);
@@ -105,6 +107,7 @@ fn wants_ip(tree: &Tree, policy: &Option<Policy>, path: &[Text], file: u32, end:
     ensures { (tape : Tape) → result ≡ chosen_for policy.now (unwrap_or (paths.last_name path.now) [])
         (max (length (cells_at (plain_of tape tree.now).nodes path.now)) end) }
 {
+    // The tree is good.
     let _count = tree.count();
     chooses_ip(
         policy,
@@ -130,7 +133,9 @@ fn overlay(tree: &mut Tree, file: u32, new: Extent, at: Moment)
         → refusal_of (plain_of whole tree.old) (Call.Write path new.offset bytes) ≡ None → 1 ≤ length bytes
         → IsWrite path new bytes at tree.old tree.new }
 {
+    // The tree is good.
     let _count = tree.count();
     tree.overlay(file, new, at);
+    // And it is good behind that.
     let _count_now = tree.count();
 }

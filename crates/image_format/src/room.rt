@@ -114,6 +114,7 @@ impl Room {
         ensures cause { IfErr result (IsBlamed (header_by self.old.limits (Some slots.old.value) ≡ None)
             (B.faults slots.old.disk) (B.faults slots.new.disk)) }
     {
+        // The number of commands is in its range.
         let _count = slots.commands();
         match self.header(slots) {
             Some(value) => match self.walk_both(slots, &value) {

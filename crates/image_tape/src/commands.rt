@@ -86,6 +86,7 @@ impl<B: ByteDisk> ImageTape<B> {
         requires { AreEarlier B.ByteDisk past.items (B.commands self.old.slots.disk) }
         ensures { IsEnded B.ByteDisk head past.items self.old self.new }
     {
+        // The number of commands is in its range.
         let _count = self.slots.commands();
         self.head = head;
         self.past = past;
@@ -96,6 +97,7 @@ impl<B: ByteDisk> ImageTape<B> {
         requires { AreEarlier B.ByteDisk past.items (B.commands self.old.slots.disk) }
         ensures { IsFailed B.ByteDisk past.items self.old self.new }
     {
+        // The number of commands is in its range.
         let _count = self.slots.commands();
         self.past = past;
         self.head = None;
@@ -163,6 +165,7 @@ impl<B: ByteDisk> ImageTape<B> {
             → Wrote B.ByteDisk at x result self.old self.new }
         ensures blamed { IsBlamed B.ByteDisk AreSpent result self.old self.new }
     {
+        // What is kept of the files tells what they hold.
         let _kept = self.doubt;
         let past = self.moment();
         let behind = next(at);
@@ -238,6 +241,7 @@ impl<B: ByteDisk> Drive for ImageTape<B> {
         (λ before. laws.fourth (laws.lower_yet _ _ _ le before.0, before.1)) };
 
     fn limits(&self) -> Limits {
+        // What is kept of the files tells what they hold.
         let _kept = self.doubt;
         self.room.limits()
     }
@@ -337,6 +341,7 @@ impl<B: ByteDisk> Drive for ImageTape<B> {
         ensures blamed { IsBlamed B.ByteDisk IsSpent result self.old self.new }
     {
         let end = self.put_note(part, Note::Kept(*note));
+        // What is kept of the files tells what they hold.
         let _kept = self.doubt;
         end
     }

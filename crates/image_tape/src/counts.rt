@@ -13,6 +13,7 @@ impl<B: ByteDisk> ImageTape<B> {
     pub fn count(&self, part: Part) -> u64
         ensures { result ≡ (half_of part self.now.reads).count + flag (half_of part self.now.reads).torn }
     {
+        // What is kept of the files tells what they hold.
         let _kept = self.doubt;
         let half = half_of(part, &self.reads);
         if half.torn {

@@ -148,5 +148,6 @@ fn note_is_sized(note: &Note)
 fn bytes_are_sized(bytes: &[u8; 70])
     ensures { length bytes.now ≡ 70 }
 {
+    // An array of 70 bytes has 70.
     let _bytes = bytes;
 }

@@ -10,5 +10,6 @@ use byte_disk::ByteDisk;
 pub fn images_open<B: ByteDisk>(tape: &ImageTape<B>)
     ensures { ImagesOpen B.ByteDisk tape.now }
 {
+    // What is kept of the files tells what they hold.
     let _kept = tape.doubt;
 }

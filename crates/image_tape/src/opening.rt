@@ -67,6 +67,7 @@ impl<B: ByteDisk> ImageTape<B> {
         match read_synced(&mut slots, &mut room) {
             Ok(value) => {
                 let tape = ImageTape::over(slots, room, value, commits);
+                // What is kept of the files tells what they hold.
                 let _kept = tape.doubt;
                 Ok(tape)
             }
@@ -101,6 +102,7 @@ impl<B: ByteDisk> ImageTape<B> {
         let opened = slots.commands();
         let past = Log::new();
         known_values_are_left::<B>();
+        // The value that counts is the one that was opened.
         let _value = slots.get();
         ImageTape {
             slots,

@@ -138,6 +138,7 @@ impl<B: ByteDisk> ImageTape<B> {
         match self.slots.set(&behind_serial(&encode_value(&value))) {
             Ok(()) => {
                 known_values_are_left::<B>();
+                // The value that counts is the one that was set.
                 let _value = self.slots.get();
                 cut_to(&reads, &mut self.room);
                 self.base = value;

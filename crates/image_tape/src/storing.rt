@@ -66,8 +66,10 @@ impl<B: ByteDisk> ImageTape<B> {
         ensures stored { IsStored B.ByteDisk 6 result self.old self.new }
         ensures blamed { IsBlamed B.ByteDisk IsSpent result self.old self.new }
     {
+        // What is kept of the files tells what they hold.
         let _kept = self.base;
         let end = self.commit(reads, reads);
+        // And it does behind that.
         let _counted = self.base;
         end
     }

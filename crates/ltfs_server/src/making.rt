@@ -49,6 +49,7 @@ pub fn run_make<
     ensures { DoesMake (one_moment at (C.one clock)) count D.Drive drive result.drive (written K.Sink out.old out.new)
         result.status result.log }
 {
+    // The number of commands is in its range.
     let _commands_are_in_range = drive.commands();
     match make_script(host.alloc, count) {
         Ok(script) => {

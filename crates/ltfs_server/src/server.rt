@@ -143,6 +143,7 @@ fn run_asked<
     ensures { DoesAsked words.now.items (C.gives clock) (C.one clock) (taken S.Source script.old script.new)
         (written K.Sink out.old out.new) D.Drive drive result.drive result.status result.log }
 {
+    // The number of commands is in its range.
     let _commands_are_in_range = drive.commands();
     let alloc = host.alloc;
     match read_words(alloc, words.as_slice()) {

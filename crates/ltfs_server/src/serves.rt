@@ -46,6 +46,7 @@ pub fn run_serve<
     ensures { DoesServe (one_moment at (C.one clock)) (taken S.Source script.old script.new) D.Drive drive result.drive
         (written K.Sink out.old out.new) result.status result.log }
 {
+    // The number of commands is in its range.
     let _commands_are_in_range = drive.commands();
     match read_calls(host.alloc, script) {
         Ok(calls) => {

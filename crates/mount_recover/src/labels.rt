@@ -47,7 +47,9 @@ pub fn read_all<D: Drive>(alloc: Global, drive: &mut D, before: u64) -> Result<L
     ensures counts { HasCounts before (D.faults drive.new) result }
     ensures looks { Looks D.Drive (12 * D.MOST) drive.old drive.new }
 {
+    // The capacities are in their range.
     let _capacities_are_in_range = drive.limits();
+    // The number of commands is in its range.
     let _commands_are_in_range = drive.commands();
     let mut buffers = Buffers::new(alloc)?;
     let ip_record = find_record(drive, Part::Ip, before, &mut buffers)?;

@@ -18,6 +18,7 @@ pub fn begin<D: Drive>(drive: &D) -> Start
     ensures since { IsSince D.Drive result drive.now }
     ensures faults { result.faults ≡ D.faults drive.now }
 {
+    // The number of commands is in its range.
     let _commands_are_in_range = drive.commands();
     Start {
         faults: drive.faults(),

@@ -66,6 +66,7 @@ impl Links {
     {
         match self.dirs.get(&uid) {
             Some(names) => {
+                // The names of a map ascend.
                 let _names_ascend = names.len();
                 list_names(alloc, names)
             }

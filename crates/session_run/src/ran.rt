@@ -57,6 +57,7 @@ fn run_none<D: Drive, C: Clock>(volume: Volume<D, C>) -> Ran<D, C>
 {
     volume.keeps();
     logs_go_on::<D>();
+    // Each session of a call is at most the greatest one.
     let _none = volume.script().sessions();
     Ran {
         volume,
@@ -75,6 +76,7 @@ fn run_some<R: Threads + Wait + Sync, D: Drive + Send, C: Clock + Send, G: Gate 
     requires fresh { volume ≡ begun volume.fixed volume.next }
     ensures { HasRun D.Drive volume result.volume result.outcome }
 {
+    // Each session of a call is at most the greatest one.
     let _most = volume.script().sessions();
     let (desk, mut passes) = match Desk::open(host.alloc, volume, sessions) {
         Ok(dealt) => dealt,

@@ -34,7 +34,9 @@ pub fn serve_volume<R: Threads + Wait + Sync, D: Drive + Send, C: Clock + Send, 
     requires allowed { MayServe D.Drive script (C.one clock) drive }
     ensures { Whole D.Drive drive (C.one clock) script result }
 {
+    // The capacities are in their range.
     let _capacities_are_in_range = drive.limits();
+    // The number of faults is in its range.
     let _faults_are_in_range = drive.faults();
     let since = Snapshot::of(&drive.commands());
     let mut drive = drive;

@@ -94,6 +94,7 @@ pub fn since_gives_all(drive: &MemDrive)
     ensures { (t : ℕ) (image : Cartridge)
         → ⟦<MemDrive as Drive>⟧.left_since drive.now t image ↔ GaveSince drive.now.held drive.now.acts t image }
 {
+    // What is kept of the commands leads back to what was before them.
     let _sound = drive.acts();
 }
 

@@ -34,6 +34,7 @@ pub fn write_tree<K: Sink>(
         (K.written out.old) (K.written out.new)) }
     ensures cause { HasListCause (K.faults out.old) (K.faults out.new) result }
 {
+    // The tree is good.
     let _count = tree.count();
     let nodes = match tree.to_nodes(alloc, LETTERS) {
         Ok(nodes) => nodes,

@@ -33,6 +33,7 @@ pub fn run_view<D: Drive, K: Sink>(
     let ViewWords { generation, path } = asked;
     match open_view(alloc, &mut drive, generation) {
         Ok(view) => {
+            // The tree is good.
             let _tree_is_good = view.tree().count();
             match path {
                 None => write_view(alloc, view, drive, out),

@@ -33,6 +33,7 @@ pub fn drain<D: Drive, C: Clock>(parts: &mut Parts<D>, clock: &mut C, who: u16) 
         (told (C.one clock.new) (C.next clock.new)) (seen_parts parts.old) (seen_parts parts.new) result }
     ensures counted { D.commands (seen_parts parts.old).drive ≤ 2 ^ 64 - 1 }
 {
+    // The number of commands is in its range.
     let _commands = parts.head.commands();
     if let Some(end) = end_drain(parts, clock, who) {
         return end;
@@ -73,6 +74,7 @@ fn rest<D: Drive>(parts: &mut Parts<D>, who: u16)
 {
     let head = parts.trail.head();
     parts.trail.write(Event::Rests { who }, head, 0);
+    // The events are a trail.
     let _at = parts.trail.head();
     parts.placements.rest(who);
 }

@@ -41,6 +41,7 @@ pub fn submit<D: Drive, C: Clock>(
     ensures answered { parts.new.reads.answered ≡ parts.old.reads.answered }
     ensures good { IsGood (seen_parts parts.old).stock.tree }
 {
+    // The tree is good.
     let _nodes = parts.stock.tree().count();
     if is_put_off(parts.stock.layout().waiting(), call) {
         return put_off(parts, clock, who, nth);

@@ -18,6 +18,7 @@ pub fn turn<D: Drive>(parts: &mut Parts<D>, ticket: u64) -> Turn
         → TurnsTo D.Drive who ticket (seen_parts parts.old) (seen_parts parts.new) result }
     ensures counted { D.commands (seen_parts parts.old).drive ≤ 2 ^ 64 - 1 }
 {
+    // The number of commands is in its range.
     let _commands = parts.head.commands();
     if let Some(reply) = parts.hand_out(ticket) {
         return Turn::Ready(reply);

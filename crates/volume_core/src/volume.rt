@@ -197,6 +197,7 @@ impl<D: Drive, C: Clock> Volume<D, C> {
     pub fn keeps(&self)
         ensures { IsServed cartridges (seen D.Drive self.now.fixed.first) (seen D.Drive self.now.drive) self.now }
     {
+        // What is kept of a volume holds of its parts.
         let _parts = &self.parts;
     }
 

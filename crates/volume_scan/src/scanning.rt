@@ -33,6 +33,7 @@ pub fn scan<D: Drive>(alloc: Global, drive: &mut D, part: Part) -> Result<Conten
     ensures counts { HasCounts (D.faults drive.old) (D.faults drive.new) result }
     ensures looks { Looks D.Drive ((capacity part (D.limits drive.old) - 3) * D.MOST) drive.old drive.new }
 {
+    // The number of commands is in its range.
     let _count_is_in_range = drive.commands();
     let before = drive.faults();
     let positions = capacity_of(drive.limits(), part);

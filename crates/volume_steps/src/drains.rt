@@ -27,6 +27,7 @@ impl<D: Drive> Parts<D> {
         self.reserve_drain()?;
         let head = self.trail.head();
         self.trail.write(Event::Drains { who }, head, 0);
+        // The events are a trail.
         let _head = self.trail.head();
         self.placements.begin(who);
         Ok(())

@@ -229,6 +229,7 @@ fn ask_all(trail: &mut Trail, queue: &mut Queue, ticket: u64, wanted: &[Place])
         trail.write(Event::Wants { ticket, place }, head, 0);
         let _node = queue.add(ticket, place);
     }
+    // The events are a trail.
     let _head = trail.head();
 }
 

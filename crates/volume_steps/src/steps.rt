@@ -141,6 +141,7 @@ impl<D: Drive> Parts<D> {
             self.placements
                 .answer(ticket, Reply::Answer(Answer::Synced));
         }
+        // The events are a trail.
         let _at = self.trail.head();
     }
 
@@ -156,6 +157,7 @@ impl<D: Drive> Parts<D> {
             fault: Some(counts),
         };
         self.trail.write(event, place, 0);
+        // The events are a trail.
         let _at = self.trail.head();
     }
 
@@ -205,6 +207,7 @@ impl<D: Drive> Parts<D> {
             fault: None,
         };
         self.trail.write(event, behind(place), 0);
+        // The events are a trail.
         let _at = self.trail.head();
         self.queue.remove(node);
         self.reads.fill(owner, place, self.head.block());
@@ -230,6 +233,7 @@ impl<D: Drive> Parts<D> {
             fault: Some(counts),
         };
         self.trail.write(event, place, 0);
+        // The events are a trail.
         let _at = self.trail.head();
         forget_requests(&mut self.queue, owner);
         self.reads.forget(owner);

@@ -88,5 +88,6 @@ pub fn queue_ops(stock: &Stock, trail: &mut Trail, others: u64)
     for nth in others..layout.waiting() {
         note_op(trail, layout.place_behind(nth));
     }
+    // The events are a trail.
     let _head = trail.head();
 }

@@ -111,6 +111,7 @@ impl<D: Drive> Parts<D> {
     {
         let commands = self.head.commands();
         note_answer(&mut self.trail, here, commands);
+        // The events are a trail.
         let _head = self.trail.head();
         self.answer(asked, Answer::Synced, Answer::Synced)
     }
@@ -121,6 +122,7 @@ impl<D: Drive> Parts<D> {
         ensures awaits { Awaits asked.who asked.nth asked.at result (seen_parts self.old) (seen_parts self.new) }
         ensures trail { IsTrail self.old.trail.events }
     {
+        // The events are a trail.
         let _head = self.trail.head();
         self.place_waiting(asked)
     }

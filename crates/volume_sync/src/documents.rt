@@ -64,6 +64,7 @@ pub fn index_document(
         doc.items ≡ canon (index_of_tree (letters_of frame.now) heading frame.now.carried tree.now)) }
     ensures some { IfOk result (λ doc. 1 ≤ length doc.items) }
 {
+    // The tree is good.
     let _count = tree.count();
     let index = tree.to_index(alloc, frame.letters(), heading, &frame.carried)?;
     let mut doc = Vec::new(alloc);
