@@ -11,9 +11,9 @@ use Rattle.head_core.specs.declared.work.StepDone.TheVariants as outcome
 use Rattle.crash_laws.specs.Changes.{IsWell}
 use Rattle.plan_laws.specs.Planned.{IsOnWay, Items}
 use Rattle.volume_core.specs.Commands.{Lasts}
-use Rattle.volume_core.specs.declared.notes.Last.{Last}
+use Rattle.volume_core.specs.declared.notes.LastIndexes.{LastIndexes}
 
-abbrev pub lasts_in : Last → Lasts
+abbrev pub lasts_in : LastIndexes → Lasts
 lasts_in l = record { uuid = l.uuid; generation = l.generation; on_ip = l.on_ip; on_dp = l.on_dp }
 
 -- The ops can be done one after the other: each has room, and where the drive tells a cartridge, that is on the way to

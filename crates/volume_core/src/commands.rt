@@ -7,7 +7,7 @@ ghost use Rattle.volume_core.specs.Commands.{AreOpsDone, EndsWith};
 ghost use Rattle.volume_core.specs.Doing.{CanDoAll, IsOneDone, lasts_in};
 ghost use Rattle.volume_core.specs.May.{MayDoAll, MayEnd};
 
-use crate::notes::{Last, write_notes_if};
+use crate::notes::{LastIndexes, write_notes_if};
 use head_core::{Head, StepDone, Work};
 use held_volume::Stock;
 use tape_drive::Drive;
@@ -17,7 +17,7 @@ use tape_types::Twin;
 pub fn end_with<D: Drive>(
     head: &mut Head<D>,
     stock: &mut Stock,
-    last: Last,
+    last: LastIndexes,
     notes: bool,
 ) -> Result<(), Twin>
     requires can { CanDoAll D.Drive stock.old.layout.ops head.old.drive }

@@ -10,7 +10,7 @@ ghost use Rattle.volume_core.specs.Finish.{Finishes, close_end, lasts_of, short_
 ghost use Rattle.volume_core.specs.Promised.{CanClose};
 
 use crate::commands::{do_ops, end_with};
-use crate::notes::Last;
+use crate::notes::LastIndexes;
 use held_volume::Stock;
 use serving_promise::CloseEnd;
 use tape_drive::Drive;
@@ -53,14 +53,14 @@ pub fn finish<D: Drive>(parts: &mut Parts<D>, noted: bool, at: Moment) -> CloseE
 }
 
 /// What the notes tell once the index of the data partition was admitted: that of the index partition goes to its end.
-fn last_of(stock: &Stock) -> Last
+fn last_of(stock: &Stock) -> LastIndexes
     ensures last { lasts_in result ≡ lasts_of stock.now }
     ensures standing { AreStanding stock.now.layout.limits stock.now.layout.block_size stock.now.layout.ends
         stock.now.layout.ops }
 {
     let (end, _) = stock.layout().ends();
     let frame = stock.frame();
-    Last {
+    LastIndexes {
         uuid: frame.label.uuid,
         generation: frame.generation,
         on_ip: end + 1,

@@ -13,7 +13,7 @@ use tape_types::{Part, Twin};
 /// The volume, its newest generation, and the first blocks of the last indexes of both partitions, where the data
 /// partition has one.
 #[derive(Clone, Copy)]
-pub struct Last {
+pub struct LastIndexes {
     pub uuid: u128,
     pub generation: u64,
     pub on_ip: u64,
@@ -21,7 +21,11 @@ pub struct Last {
 }
 
 /// Writes the notes where they are due.
-pub fn write_notes_if<D: Drive>(head: &mut Head<D>, last: Last, due: bool) -> Result<(), Twin>
+pub fn write_notes_if<D: Drive>(
+    head: &mut Head<D>,
+    last: LastIndexes,
+    due: bool,
+) -> Result<(), Twin>
     requires may { MayWriteNotes D.Drive (lasts_in last) head.old.drive }
     ensures { WritesNotesIf D.Drive (lasts_in last) due head.old.drive head.new.drive result }
 {
@@ -32,7 +36,7 @@ pub fn write_notes_if<D: Drive>(head: &mut Head<D>, last: Last, due: bool) -> Re
 }
 
 /// Reads the volume change reference, and writes the note of the index partition and that of the data partition.
-fn write_notes<D: Drive>(head: &mut Head<D>, last: Last) -> Result<(), Twin>
+fn write_notes<D: Drive>(head: &mut Head<D>, last: LastIndexes) -> Result<(), Twin>
     requires may { MayWriteNotes D.Drive (lasts_in last) head.old.drive }
     ensures { WritesNotes D.Drive (lasts_in last) head.old.drive head.new.drive result }
 {
@@ -47,7 +51,7 @@ fn write_notes<D: Drive>(head: &mut Head<D>, last: Last) -> Result<(), Twin>
 }
 
 /// Writes the note of the data partition, where that has an index.
-fn write_dp_note<D: Drive>(head: &mut Head<D>, last: Last, vcr: u64) -> Result<(), Twin>
+fn write_dp_note<D: Drive>(head: &mut Head<D>, last: LastIndexes, vcr: u64) -> Result<(), Twin>
     requires may { MayWriteDpNote D.Drive (lasts_in last) vcr head.old.drive }
     ensures { IsDpNoteWritten D.Drive (lasts_in last) vcr head.old.drive head.new.drive result }
 {
@@ -58,7 +62,7 @@ fn write_dp_note<D: Drive>(head: &mut Head<D>, last: Last, vcr: u64) -> Result<(
 }
 
 /// What a note tells of the last index of a partition, with the first block of that.
-fn values(last: Last, vcr: u64, block: u64) -> Coherency
+fn values(last: LastIndexes, vcr: u64, block: u64) -> Coherency
     ensures { result ≡ values_of (lasts_in last) vcr block }
 {
     Coherency {
