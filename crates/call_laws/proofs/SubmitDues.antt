@@ -90,8 +90,8 @@ module _ {D : Type 0} (drive : Ghosts D) (fixed : Fixed D) (planned : Items) (be
     can_tell = record {
       letters_are = record { ip = tied.mount.letters.0; dp = tied.mount.letters.1 };
       differ = tied.mount.letters.2;
-      uuid = subst (λ (n : ℕ). n < 2 ^ 128) tied.mount.uuid tied.mount.valid.formed.uuid;
-      facts = record { comment = tied.mount.valid.formed.comment; policy = tied.mount.valid.formed.policy };
+      uuid = subst (λ (n : ℕ). n < 2 ^ 128) tied.mount.uuid tied.mount.valid.formed.volume.uuid;
+      facts = record { comment = tied.mount.valid.formed.volume.comment; policy = tied.mount.valid.formed.volume.policy };
       generation = room.0;
       here = omega (arith, near);
       back = back_near st.space.last_dp (length (planned Dp))

@@ -151,8 +151,8 @@ module _ {D : Type 0} (first : Drive) (v : View D) (limits : IsLimits first.limi
 
   first_near : IsMount first.limits v.fixed.mounted → IsNear (first_standing g).space
   first_near mount = record {
-    least = subst (λ (n : ℕ). 1 ≤ n) (sym mount.newest) mount.valid.formed.generation_least;
-    most = subst (λ (n : ℕ). n ≤ 2 ^ 62) (sym mount.newest) mount.valid.formed.generation_most;
+    least = subst (λ (n : ℕ). 1 ≤ n) (sym mount.newest) mount.valid.formed.volume.generation_least;
+    most = subst (λ (n : ℕ). n ≤ 2 ^ 62) (sym mount.newest) mount.valid.formed.volume.generation_most;
     back = back v.fixed.mounted.last_dp mount.last_dp;
   }
     where
@@ -176,9 +176,9 @@ can_tell limits m g st is near on_ip on_dp =
           (record { ip = mount.letters.0; dp = mount.letters.1 });
       differ = subst (λ (f : MountFacts). f.label.index ≡ f.label.dpart → ⊥) (sym is.facts) mount.letters.2;
       uuid = subst (λ (f : MountFacts). f.label.uuid < 2 ^ 128) (sym is.facts)
-          (subst (λ (n : ℕ). n < 2 ^ 128) mount.uuid mount.valid.formed.uuid);
+          (subst (λ (n : ℕ). n < 2 ^ 128) mount.uuid mount.valid.formed.volume.uuid);
       facts = subst (λ (f : MountFacts). AreFitFacts (carried_of f.index)) (sym is.facts)
-          (record { comment = mount.valid.formed.comment; policy = mount.valid.formed.policy });
+          (record { comment = mount.valid.formed.volume.comment; policy = mount.valid.formed.volume.policy });
       near = near;
       on_ip = close_to st.space.ends.ip g.limits.cap_ip limits.cap_ip on_ip
           (ap (λ (l : Limits). l.cap_ip) is.limits_are) is.range.ip_most;

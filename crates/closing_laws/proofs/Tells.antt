@@ -66,14 +66,16 @@ module _ (c : Cartridge) (g : Given) (on : Bool) (st : Standing) (s : Stocked) (
   pub valid_close : IsValid (index_of_close g st at)
   valid_close = record {
     formed = record {
-      creator = valid_before.formed.creator;
-      comment = valid_before.formed.comment;
-      uuid = valid_before.formed.uuid;
-      generation_least = can.near.least;
-      generation_most = can.near.most;
-      here = record { letter = can.letters_are.ip; block = can.on_ip };
-      back = valid_before.formed.back;
-      policy = valid_before.formed.policy;
+      volume = record {
+        creator = valid_before.formed.volume.creator;
+        comment = valid_before.formed.volume.comment;
+        uuid = valid_before.formed.volume.uuid;
+        generation_least = can.near.least;
+        generation_most = can.near.most;
+        here = record { letter = can.letters_are.ip; block = can.on_ip };
+        back = valid_before.formed.volume.back;
+        policy = valid_before.formed.volume.policy;
+      };
       count = valid_before.formed.count;
       order = valid_before.formed.order;
       names = valid_before.formed.names;

@@ -18,7 +18,7 @@ use Rattle.index_model.specs.Keys.{IsXattr}
 use Rattle.index_model.specs.Names.{IsNodeName, IsVolumeName, AreNames}
 use Rattle.index_model.specs.Places.{IsAt}
 use Rattle.index_model.specs.Texts.{IsLetter}
-use Rattle.index_model.specs.Valid.{IsValid}
+use Rattle.index_model.specs.Valid.{IsFitVolume, IsValid}
 use Rattle.extent_map.specs.Laid.{Laid, Room, AreLaid, cut, put_among}
 use Rattle.extent_map.specs.Cells.{Tape}
 use Rattle.extent_map.specs.Blocks.{SomeStandsIn, FileStandsIn}
@@ -32,7 +32,7 @@ use Rattle.file_tree.specs.Mounts.{Letters, part_of, extent_of, by_offset, laid_
 use Rattle.file_tree.specs.Mounts.IsPathOf.{root, below}
 use Rattle.file_tree.specs.Told.{letter_of, raw_of, told_kind_of, name_or, told_of, told_nodes}
 use Rattle.file_tree.specs.Valid.{IsFit, IsGood, IsFileOf}
-use Rattle.file_tree.specs.Indexes.{TellsTree, IsFitVolume, AreLetters, without_room, as_told, IsSameTree, IndexesComeBack}
+use Rattle.file_tree.specs.Indexes.{TellsTree, AreLetters, without_room, as_told, IsSameTree, IndexesComeBack}
 use Rattle.name_tries.proofs.ItemLemmas.{some_same}
 use Rattle.file_tree.proofs.PathLemmas.{by_last, same_nodes}
 use Rattle.file_tree.proofs.PlainLemmas.{plain_get, plain_len}
@@ -259,14 +259,7 @@ module _ (letters : Letters) (t : FileTree) (good : IsGood t) where
   pub told_valid : (index : Index) → AreLetters letters → TellsTree letters t index → IsFitVolume index → IsValid index
   told_valid index are tells volume = record {
     formed = record {
-      creator = volume.creator;
-      comment = volume.comment;
-      uuid = volume.uuid;
-      generation_least = volume.generation_least;
-      generation_most = volume.generation_most;
-      here = volume.here;
-      back = volume.back;
-      policy = volume.policy;
+      volume = volume;
       count = subst (λ (l : List told.Node). length l ≤ most_nodes) (sym tells.nodes) count_told;
       order = subst Rattle.index_model.specs.Order.AreInOrder (sym tells.nodes) (order.told_in_order letters t good);
       names = subst AreNames (sym tells.nodes) names_told;

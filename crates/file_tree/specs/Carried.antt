@@ -3,13 +3,13 @@ use Rattle.std.specs.Prelude.{◌≡◌, ℕ, ◌<◌, ◌≤◌, ◌^◌, List,
 use Rattle.index_model.specs.declared.indexes.Index.{Index}
 use Rattle.index_model.specs.declared.nodes.Node as told
 use Rattle.index_model.specs.Texts.{IsPlainText}
-use Rattle.index_model.specs.Valid.{IsSpot, IsPolicy}
+use Rattle.index_model.specs.Valid.{IsFitVolume, IsSpot, IsPolicy}
 use Rattle.file_tree.specs.declared.carried.Carried.{Carried}
 use Rattle.file_tree.specs.declared.carried.Heading.{Heading}
 use Rattle.file_tree.specs.Tree.{FileTree}
 use Rattle.file_tree.specs.Mounts.{Letters}
 use Rattle.file_tree.specs.Told.{told_nodes}
-use Rattle.file_tree.specs.Indexes.{TellsTree, IsFitVolume}
+use Rattle.file_tree.specs.Indexes.{TellsTree}
 
 abbrev pub carried_of : Index → Carried
 carried_of index = record { comment = index.comment; allow = index.allow; policy = index.policy; lock = index.lock }

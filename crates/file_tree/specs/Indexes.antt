@@ -1,5 +1,5 @@
 -- The index that tells a tree: that it is valid, and that the tree comes back of it.
-use Rattle.std.specs.Prelude.{◌≡◌, ◌≢◌, ℕ, ◌<◌, ◌≤◌, ◌^◌, List, map, IfSome}
+use Rattle.std.specs.Prelude.{◌≡◌, ◌≢◌, ℕ, ◌<◌, List, map}
 use Rattle.std.specs.Option.{option_map}
 use Rattle.std.specs.FinMap as fin
 use Rattle.index_model.specs.declared.indexes.Index.{Index}
@@ -10,8 +10,8 @@ use Rattle.index_model.specs.declared.nodes.NodeKind as told_kind
 use Rattle.index_model.specs.declared.nodes.NodeKind.TheVariants as told_kinds
 use Rattle.index_model.specs.Places.{IsAt}
 use Rattle.plain_tree.specs.Links.{name_cmp}
-use Rattle.index_model.specs.Texts.{IsLetter, IsPlainText}
-use Rattle.index_model.specs.Valid.{IsSpot, IsPolicy, IsValid}
+use Rattle.index_model.specs.Texts.{IsLetter}
+use Rattle.index_model.specs.Valid.{IsFitVolume, IsValid}
 use Rattle.extent_map.specs.Cells.{Tape}
 use Rattle.file_tree.specs.declared.nodes.Node.{Node}
 use Rattle.file_tree.specs.declared.nodes.HeldKind.{HeldKind}
@@ -26,17 +26,6 @@ use Rattle.file_tree.specs.Valid.{IsGood}
 pub record TellsTree (letters : Letters) (t : FileTree) (index : Index) : Type 0 where
   pub nodes : index.nodes ≡ told_nodes letters t
   pub highest : index.highest ≡ t.highest
-
--- what an index tells of its volume besides is such as it may be
-pub record IsFitVolume (index : Index) : Type 0 where
-  pub creator : IsPlainText index.creator
-  pub comment : IfSome index.comment IsPlainText
-  pub uuid : index.uuid < 2 ^ 128
-  pub generation_least : 1 ≤ index.generation
-  pub generation_most : index.generation ≤ 2 ^ 62
-  pub here : IsSpot index.here
-  pub back : IfSome index.back IsSpot
-  pub policy : IfSome index.policy IsPolicy
 
 -- two letters of partitions
 pub record AreLetters (letters : Letters) : Type 0 where

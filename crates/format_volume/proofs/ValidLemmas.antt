@@ -163,14 +163,16 @@ files_alone root dir = record {
 pub valid : (part : Part) (spec : FormatSpec) → spec_fault spec ≡ None → IsSpec spec → IsValid (index_on part spec)
 valid part spec none values = record {
   formed = record {
-    creator = creator_plain;
-    comment = tt;
-    uuid = values.uuid;
-    generation_least = omega arith;
-    generation_most = omega arith;
-    here = spot_fits part;
-    back = back_fits part;
-    policy = policy_fits spec.policy (fine spec none).policy values.patterns;
+    volume = record {
+      creator = creator_plain;
+      comment = tt;
+      uuid = values.uuid;
+      generation_least = omega arith;
+      generation_most = omega arith;
+      here = spot_fits part;
+      back = back_fits part;
+      policy = policy_fits spec.policy (fine spec none).policy values.patterns;
+    };
     count = omega arith;
     order = order_alone (root_of spec) refl refl;
     names = names_alone (root_of spec) (name_fits spec.name (fine spec none).name values.name);

@@ -112,7 +112,7 @@ mounts_can_start limits m range is =
         ip = record { low = is.ip_end.0; high = is.ip_end.1 };
         dp = record { low = is.dp_end.0; high = is.dp_end.1 };
       };
-      newest = omega (arith, is.newest, is.valid.formed.generation_most);
+      newest = omega (arith, is.newest, is.valid.formed.volume.generation_most);
     }
 
 -- what a mount finds is held as what stands first

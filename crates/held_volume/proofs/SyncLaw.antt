@@ -8,10 +8,10 @@ use Rattle.std.proofs.lemmas.Str.{IsUtf8-from_ascii, chars-IsAscii}
 use Rattle.std.proofs.lemmas.Str.Ascii.{IsAscii-from_all}
 use Rattle.doc_fields.specs.Texts.{is_allowed}
 use Rattle.index_model.specs.Texts.{IsPlainText}
-use Rattle.index_model.specs.Valid.{IsSpot}
+use Rattle.index_model.specs.Valid.{IsFitVolume, IsSpot}
 use Rattle.plain_tree.specs.Tree as plain
 use Rattle.plain_tree.proofs.MoveLemmas.{both_true}
-use Rattle.file_tree.specs.Indexes.{IsFitVolume, TellsTree}
+use Rattle.file_tree.specs.Indexes.{TellsTree}
 use Rattle.file_tree.proofs.IndexLemmas.{indexes_come_back}
 use Rattle.space_laws.specs.Files.{letters}
 use Rattle.held_volume.specs.Synced.{SyncsTellTheTree, index_of_sync}

@@ -46,9 +46,9 @@ can_tell limits m g on st at is changed fits back =
     record {
       letters_are = subst (λ (f : MountFacts). Rattle.file_tree.specs.Indexes.AreLetters (f.label.index, f.label.dpart)) (sym is.facts) (record { ip = mount.letters.0; dp = mount.letters.1 });
       differ = subst (λ (f : MountFacts). f.label.index ≡ f.label.dpart → ⊥) (sym is.facts) mount.letters.2;
-      uuid = subst (λ (f : MountFacts). f.label.uuid < 2 ^ 128) (sym is.facts) (omega (arith, mount.uuid, mount.valid.formed.uuid));
+      uuid = subst (λ (f : MountFacts). f.label.uuid < 2 ^ 128) (sym is.facts) (omega (arith, mount.uuid, mount.valid.formed.volume.uuid));
       facts = subst (λ (f : MountFacts). Rattle.file_tree.specs.Carried.AreFitFacts (Rattle.file_tree.specs.Carried.carried_of f.index)) (sym is.facts)
-          (record { comment = mount.valid.formed.comment; policy = mount.valid.formed.policy });
+          (record { comment = mount.valid.formed.volume.comment; policy = mount.valid.formed.volume.policy });
       generation = place.generation;
       here = place.here;
       back = back;

@@ -192,14 +192,16 @@ letter l from to = record { from_a = grind (arith, nat_tests); to_z = grind (ari
 
 formed : (at : Moment) (times : Times) → IsFormed (archive at times)
 formed at times = record {
-  creator = plain (codes "Example LTFS 2.4.0.0 - Linux - ltfs") refl;
-  comment = plain (codes "Nightly & weekly") refl;
-  uuid = omega arith;
-  generation_least = omega arith;
-  generation_most = omega arith;
-  here = record { letter = letter 98 refl refl; block = omega arith };
-  back = record { letter = letter 98 refl refl; block = omega arith };
-  policy = tt;
+  volume = record {
+    creator = plain (codes "Example LTFS 2.4.0.0 - Linux - ltfs") refl;
+    comment = plain (codes "Nightly & weekly") refl;
+    uuid = omega arith;
+    generation_least = omega arith;
+    generation_most = omega arith;
+    here = record { letter = letter 98 refl refl; block = omega arith };
+    back = record { letter = letter 98 refl refl; block = omega arith };
+    policy = tt;
+  };
   count = omega arith;
   order = in_order times;
   names = named times;

@@ -23,8 +23,8 @@ pub record IsPolicy (policy : Policy) : Type 0 where
   pub size : policy.size ≤ 2 ^ 62
   pub names : AllByRecursion IsUtf8 policy.names
 
--- what is seen of each value by itself, and of the order of the nodes
-pub record IsFormed (index : Index) : Type 0 where
+-- what an index tells of its volume besides the nodes is such as it may be
+pub record IsFitVolume (index : Index) : Type 0 where
   pub creator : IsPlainText index.creator
   pub comment : IfSome index.comment IsPlainText
   pub uuid : index.uuid < 2 ^ 128
@@ -33,6 +33,10 @@ pub record IsFormed (index : Index) : Type 0 where
   pub here : IsSpot index.here
   pub back : IfSome index.back IsSpot
   pub policy : IfSome index.policy IsPolicy
+
+-- what is seen of each value by itself, and of the order of the nodes
+pub record IsFormed (index : Index) : Type 0 where
+  pub volume : IsFitVolume index
   pub count : length index.nodes ≤ most_nodes
   pub order : AreInOrder index.nodes
   pub names : AreNames index.nodes

@@ -91,17 +91,17 @@ node_good index valid short at node behind is =
 
 volume_good : (index : Index) → IsValid index → GoodVolume (volume_of index)
 volume_good index valid =
-    let formed = valid.formed in
+    let volume = valid.formed.volume in
     record {
-      creator = formed.creator;
-      comment = formed.comment;
-      uuid = formed.uuid;
-      generation_least = formed.generation_least;
-      generation_most = formed.generation_most;
+      creator = volume.creator;
+      comment = volume.comment;
+      uuid = volume.uuid;
+      generation_least = volume.generation_least;
+      generation_most = volume.generation_most;
       updated = (index.updated, refl);
-      here = formed.here;
-      back = formed.back;
-      policy = formed.policy;
+      here = volume.here;
+      back = volume.back;
+      policy = volume.policy;
       highest = (let bounded = valid.agrees.uids.bounded in omega arith);
     }
 

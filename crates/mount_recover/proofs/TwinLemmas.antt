@@ -26,14 +26,16 @@ use Rattle.mount_recover.proofs.MountLemmas.{spot_of}
 valid_twin : (index : Index) (twin : TwinIndex) → IsValid index → IsSpot twin.here → IsSpot twin.back → IsValid (twin_of index twin)
 valid_twin index twin valid here back = record {
   formed = record {
-    creator = valid.formed.creator;
-    comment = valid.formed.comment;
-    uuid = valid.formed.uuid;
-    generation_least = valid.formed.generation_least;
-    generation_most = valid.formed.generation_most;
-    here = here;
-    back = back;
-    policy = valid.formed.policy;
+    volume = record {
+      creator = valid.formed.volume.creator;
+      comment = valid.formed.volume.comment;
+      uuid = valid.formed.volume.uuid;
+      generation_least = valid.formed.volume.generation_least;
+      generation_most = valid.formed.volume.generation_most;
+      here = here;
+      back = back;
+      policy = valid.formed.volume.policy;
+    };
     count = valid.formed.count;
     order = valid.formed.order;
     names = valid.formed.names;
