@@ -56,14 +56,12 @@ module _ {D : Type 0} (disk : Ghosts D) where
       (past : List (ℕ × slot.View D)) (same_past : Remembers disk past a) (ended : IsEnded disk head past b c) where
     pub ends_well : Ends {T = T} {E = E} disk (Ok x) a c
     ends_well = subst (λ (v : View D). Ends {T = T} {E = E} disk (Ok x) a v) (sym ended.after) (record {
-      limits = stays.limits;
       opened = stays.opened;
       past = same_past.are;
       early = same_past.early;
       reached = same_past.reached;
       lost = tt;
-      count = counted m a b le count rose ended.count;
-      cause = record { later = omega (arith, stays.faults); failed = tt };
+      command = record { limits = stays.limits; count = counted m a b le count rose ended.count; cause = record { later = omega (arith, stays.faults); failed = tt } };
     })
 
   -- one that failed
@@ -72,14 +70,12 @@ module _ {D : Type 0} (disk : Ghosts D) where
       (ended : IsFailed disk past b c) where
     pub ends_badly : Ends {T = T} {E = E} disk (Err why) a c
     ends_badly = subst (λ (v : View D). Ends {T = T} {E = E} disk (Err why) a v) (sym ended.after) (record {
-      limits = stays.limits;
       opened = stays.opened;
       past = same_past.are;
       early = same_past.early;
       reached = same_past.reached;
       lost = refl;
-      count = counted m a b le count rose ended.count;
-      cause = record { later = omega (arith, stays.faults, ended.faults); failed = omega (arith, stays.faults) };
+      command = record { limits = stays.limits; count = counted m a b le count rose ended.count; cause = record { later = omega (arith, stays.faults, ended.faults); failed = omega (arith, stays.faults) } };
     })
 
   ended_held : (head : Option Place) (past : List (ℕ × slot.View D)) (b c : View D) → IsEnded disk head past b c → held_of disk c ≡ held_of disk b

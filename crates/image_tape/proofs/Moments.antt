@@ -65,10 +65,10 @@ module _ {D : Type 0} (disk : Ghosts D) where
   pub crash_at : {T E : Type 0} {step : Cartridge → Cartridge → Type 0} (end : Result T E) (a b : View D) → Ends disk end a b → CrashesOn disk a.room.limits step a b
       → Crashes step (disk.commands a.slots.disk) (LeavesOf disk a) (LeavesOf disk b) (LeftSince disk a) (LeftSince disk b)
   crash_at {step = step} end a b ends crash =
-      let same = ends.limits in
+      let same = ends.command.limits in
       let past = ends.past in
-      let rose = ends.count.at_least in
-      let later = ends.count.later in
+      let rose = ends.command.count.at_least in
+      let later = ends.command.count.later in
       let early = ends.early in
       let opened = ends.opened in
       let open_by = ends.reached in

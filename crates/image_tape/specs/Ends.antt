@@ -1,7 +1,6 @@
 -- What a command of a tape leaves of it.
 use Rattle.std.specs.Prelude.{ℕ, ◌+◌, ◌-◌, ◌^◌, ◌≤◌, ◌≡◌, min, Option, Some, None, Result, OnOk, OnErr, IfOk, IsErr}
 use Rattle.std.specs.Prelude.{List}
-use Rattle.tape_types.specs.Counts.{HasCause}
 use Rattle.tape_types.specs.declared.cartridges.Cartridge.{Cartridge}
 use Rattle.tape_types.specs.declared.cartridges.Place.{Place}
 use Rattle.tape_types.specs.declared.cartridges.Item.{Item}
@@ -10,7 +9,7 @@ use Rattle.tape_types.specs.declared.cartridges.Part.{Part}
 use Rattle.tape_types.specs.Cartridges.{capacity, next}
 use Rattle.tape_drive.specs.declared.drive.Got.{Got}
 use Rattle.tape_drive.specs.declared.drive.Got.TheVariants as got
-use Rattle.tape_drive.specs.Commands.{AfterNote, AfterWrite, Counted, FillsBuffer, IsRead, after_read, item_at}
+use Rattle.tape_drive.specs.Commands.{AfterNote, AfterWrite, Commanded, FillsBuffer, IsRead, after_read, item_at}
 use Rattle.tape_drive.specs.Crashes as crash
 use Rattle.tape_drive.specs.Crashes.{IsSettled, NothingNew, WithinFlush, WithinNote, WithinWrite}
 use Rattle.byte_disk.specs.declared.disk.ByteDisk.{Ghosts}
@@ -61,14 +60,13 @@ pub record IsFailed {D : Type 0} (disk : Ghosts D) (past : List (ℕ × slot.Vie
 
 -- what is true of each command
 pub record Ends {D T E : Type 0} (disk : Ghosts D) (end : Result T E) (old new : View D) : Type 0 where
-  pub limits : new.room.limits ≡ old.room.limits
   pub opened : new.opened ≡ old.opened
   pub past : new.past ≡ with_moment old
   pub early : AreEarlier disk old.past (disk.commands old.slots.disk)
   pub reached : old.opened ≤ disk.commands old.slots.disk
   pub lost : OnErr end (new.head ≡ None)
-  pub count : Counted 16 (disk.commands old.slots.disk) (disk.commands new.slots.disk)
-  pub cause : HasCause old.faults new.faults end
+  pub command : Commanded 16 old.room.limits new.room.limits
+      (disk.commands old.slots.disk) (disk.commands new.slots.disk) old.faults new.faults end
 
 -- a command that only reads
 pub record IsLooked {D T E : Type 0} (disk : Ghosts D) (end : Result T E) (old new : View D) : Type 0 where

@@ -1,7 +1,7 @@
 -- Runs of commands that only read.
-use Rattle.std.proofs.Common.{ℕ, ◌+◌, ◌-◌, ◌^◌, ◌≤◌, ◌≡◌, ◌∙◌, ⊎_elim, refl, sym, subst, arith}
+use Rattle.std.proofs.Common.{ℕ, ◌+◌, ◌-◌, ◌^◌, ◌≤◌, ◌≡◌, ◌∙◌, ⊎_elim, Result, refl, sym, subst, arith}
 use Rattle.tape_types.specs.declared.cartridges.Cartridge.{Cartridge}
-use Rattle.tape_drive.specs.Commands.{Counted}
+use Rattle.tape_drive.specs.Commands.{Commanded, Counted}
 use Rattle.tape_drive.specs.Crashes.{Crashes, NothingNew, OnlyReads}
 use Rattle.tape_drive.specs.Looks.{Looks}
 use Rattle.tape_drive.specs.declared.drive.Drive.{Ghosts}
@@ -62,13 +62,14 @@ module _ {D : Type 0} (drive : Ghosts D) where
   no_looks d most = record { held = refl; limits = refl; reads = no_reads (drive.commands d) (drive.leaves d) (drive.left_since d) most }
 
   -- one command that leaves all as it was only looks
-  pub one_look : (most : ℕ) (a b : D)
+  pub one_look : {T E : Type 0} {r : Result T E} (most : ℕ) (a b : D)
       → ((t : ℕ) (image : Cartridge) → t ≤ drive.commands a → drive.leaves a image → drive.left_since a t image)
-      → drive.held b ≡ drive.held a → drive.limits b ≡ drive.limits a → Counted most (drive.commands a) (drive.commands b)
+      → drive.held b ≡ drive.held a
+      → Commanded most (drive.limits a) (drive.limits b) (drive.commands a) (drive.commands b) (drive.faults a) (drive.faults b) r
       → Crashes NothingNew (drive.commands a) (drive.leaves a) (drive.leaves b) (drive.left_since a) (drive.left_since b)
       → Looks drive most a b
-  one_look most a b counts_now held limits counted crashes =
-      record { held = held; limits = limits; reads = one_read counts_now counted crashes }
+  one_look most a b counts_now held command crashes =
+      record { held = held; limits = command.limits; reads = one_read counts_now command.count crashes }
 
   -- commands that only look, one behind the other, only look
   pub then_looks : (m n : ℕ) (a b c : D) → Looks drive m a b → Looks drive n b c → Looks drive (m + n) a c

@@ -11,13 +11,12 @@ use Rattle.tape_types.specs.declared.cartridges.Cartridge.{Cartridge}
 use Rattle.tape_types.specs.declared.cartridges.Part.{Part}
 use Rattle.tape_types.specs.declared.cartridges.Part.TheVariants.{Ip, Dp}
 use Rattle.tape_types.specs.Cartridges.{items_of, note_of, capacity, next, IsItem, HoldsAtMost, FitsLimits}
-use Rattle.tape_types.specs.Counts.{HasCause}
 use Rattle.tape_drive.specs.declared.record.Act.{Act}
 use Rattle.tape_drive.specs.declared.record.Act.TheVariants.{Put, Noted}
 use Rattle.tape_drive.specs.declared.schedule.Cmd.{Cmd}
 use Rattle.tape_drive.specs.declared.schedule.Cmd.TheVariants as cmd
 use Rattle.tape_drive.specs.declared.drive.Got.{Got}
-use Rattle.tape_drive.specs.Commands.{Counted, item_at, IsRead, FillsBuffer, after_read, AfterWrite, AfterNote, IsWritten, IsBroken, IsNoted}
+use Rattle.tape_drive.specs.Commands.{Commanded, Counted, item_at, IsRead, FillsBuffer, after_read, AfterWrite, AfterNote, IsWritten, IsBroken, IsNoted}
 use Rattle.tape_drive.specs.Crashes.{Crashes, NothingNew, WithinWrite, HasState}
 use Rattle.tape_drive.specs.Memory.{View, begun, acted, moved, failed, starved_out, with_item, RanLocate, RanRead, Ran, RanPut, IsSane}
 use Rattle.tape_drive.specs.Record.{with_note, undo, During, Settles, Leaves, LeftSince}
@@ -26,9 +25,7 @@ use Rattle.tape_drive.proofs.Acts.{quiet, acts, within_put, written, broken, not
 
 -- what every command ensures
 pub record Meets {T E : Type 0} (r : Result T E) (step : Cartridge → Cartridge → Type 0) (old new : View) : Type 0 where
-  pub limits : new.limits ≡ old.limits
-  pub count : Counted 1 old.commands new.commands
-  pub cause : HasCause old.faults new.faults r
+  pub command : Commanded 1 old.limits new.limits old.commands new.commands old.faults new.faults r
   pub lost : OnErr r (new.head ≡ None)
   pub crash : Crashes step old.commands (Leaves old.held old.acts) (Leaves new.held new.acts)
       (LeftSince old.commands old.held old.acts) (LeftSince new.commands new.held new.acts)
@@ -40,27 +37,21 @@ module _ (T E : Type 0) (step : Cartridge → Cartridge → Type 0) (old : View)
   -- a command that left no entry
   pub meets_still : (t : T) (kind : Cmd) (head : Option Place) → ((image : Cartridge) → step image image) → Meets {T = T} {E = E} (Ok t) step old (moved head (begun kind old))
   meets_still t kind head same = record {
-    limits = refl;
-    count = counted_up old.commands sane.commands;
-    cause = record { later = omega arith; failed = tt };
+    command = record { limits = refl; count = counted_up old.commands sane.commands; cause = record { later = omega arith; failed = tt } };
     lost = tt;
     crash = quiet old.held old.acts old.commands _ sane.sound.numbers (omega arith) step same;
   }
 
   pub meets_failed : (e : E) (kind : Cmd) → ((image : Cartridge) → step image image) → Meets {T = T} {E = E} (Err e) step old (failed (begun kind old))
   meets_failed e kind same = record {
-    limits = refl;
-    count = counted_up old.commands sane.commands;
-    cause = record { later = omega (arith, sane.faults); failed = omega arith };
+    command = record { limits = refl; count = counted_up old.commands sane.commands; cause = record { later = omega (arith, sane.faults); failed = omega arith } };
     lost = refl;
     crash = quiet old.held old.acts old.commands _ sane.sound.numbers (omega arith) step same;
   }
 
   pub meets_starved : (e : E) (kind : Cmd) → ((image : Cartridge) → step image image) → Meets {T = T} {E = E} (Err e) step old (starved_out (begun kind old))
   meets_starved e kind same = record {
-    limits = refl;
-    count = counted_up old.commands sane.commands;
-    cause = record { later = omega (arith, sane.faults); failed = omega arith };
+    command = record { limits = refl; count = counted_up old.commands sane.commands; cause = record { later = omega (arith, sane.faults); failed = omega arith } };
     lost = refl;
     crash = quiet old.held old.acts old.commands _ sane.sound.numbers (omega arith) step same;
   }
@@ -69,9 +60,7 @@ module _ (T E : Type 0) (step : Cartridge → Cartridge → Type 0) (old : View)
   pub meets_acted : (t : T) (kind : Cmd) (act : Act) (held : Cartridge) (head : Option Place) → undo act held ≡ old.held → ((before image : Cartridge) → During act held before image → step before image)
       → Meets {T = T} {E = E} (Ok t) step old (moved head (acted old.commands act held (begun kind old)))
   meets_acted t kind act held head undone within = record {
-    limits = refl;
-    count = counted_up old.commands sane.commands;
-    cause = record { later = omega arith; failed = tt };
+    command = record { limits = refl; count = counted_up old.commands sane.commands; cause = record { later = omega arith; failed = tt } };
     lost = tt;
     crash = acts old.held old.acts old.commands _ sane.sound.numbers (omega arith) step held act undone within;
   }
@@ -79,9 +68,7 @@ module _ (T E : Type 0) (step : Cartridge → Cartridge → Type 0) (old : View)
   pub meets_broken : (e : E) (kind : Cmd) (act : Act) (held : Cartridge) → undo act held ≡ old.held → ((before image : Cartridge) → During act held before image → step before image)
       → Meets {T = T} {E = E} (Err e) step old (failed (acted old.commands act held (begun kind old)))
   meets_broken e kind act held undone within = record {
-    limits = refl;
-    count = counted_up old.commands sane.commands;
-    cause = record { later = omega (arith, sane.faults); failed = omega arith };
+    command = record { limits = refl; count = counted_up old.commands sane.commands; cause = record { later = omega (arith, sane.faults); failed = omega arith } };
     lost = refl;
     crash = acts old.held old.acts old.commands _ sane.sound.numbers (omega arith) step held act undone within;
   }

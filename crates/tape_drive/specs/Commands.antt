@@ -9,7 +9,7 @@ use Rattle.tape_types.specs.declared.cartridges.Note.{Note}
 use Rattle.tape_types.specs.declared.cartridges.Limits.{Limits}
 use Rattle.tape_types.specs.declared.cartridges.Cartridge.{Cartridge}
 use Rattle.tape_types.specs.Cartridges.{items_of, note_of, other, capacity, next}
-use Rattle.tape_types.specs.Counts.{Rose}
+use Rattle.tape_types.specs.Counts.{HasCause, Rose}
 use Rattle.tape_drive.specs.declared.drive.Got.{Got}
 use Rattle.tape_drive.specs.declared.drive.Got.TheVariants as got
 
@@ -22,6 +22,14 @@ pub record Counted (most before now : ℕ) : Type 0 where
   pub later : before ≤ now
   pub at_least : Rose before now
   pub at_most : now ≤ min (before + most) (2 ^ 64 - 1)
+
+-- What is true of each command of a drive: the limits stay, the number of commands goes up by one to `most`, and a
+-- failure is answered only where the drive has failed once more.
+pub record Commanded {T E : Type 0} (most : ℕ) (limits_old limits_new : Limits) (commands_old commands_new : ℕ)
+    (faults_old faults_new : ℕ) (result : Result T E) : Type 0 where
+  pub limits : limits_new ≡ limits_old
+  pub count : Counted most commands_old commands_new
+  pub cause : HasCause faults_old faults_new result
 
 -- the item at a place, where there is one
 abbrev pub item_at : Place → Cartridge → Option Item

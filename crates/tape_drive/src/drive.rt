@@ -7,8 +7,7 @@ ghost use Rattle.tape_types.specs.declared.cartridges.Place.{Place};
 ghost use Rattle.tape_types.specs.declared.cartridges.Item.TheVariants as item;
 ghost use Rattle.tape_types.specs.declared.cartridges.Note.TheVariants as kind;
 ghost use Rattle.tape_types.specs.Cartridges.{items_of, note_of, capacity, next, IsLimits, FitsLimits};
-ghost use Rattle.tape_types.specs.Counts.{HasCause};
-ghost use Rattle.tape_drive.specs.Commands.{HasRoom, Counted, item_at, IsRead, FillsBuffer, after_read, AfterWrite};
+ghost use Rattle.tape_drive.specs.Commands.{HasRoom, Commanded, item_at, IsRead, FillsBuffer, after_read, AfterWrite};
 ghost use Rattle.tape_drive.specs.Commands.{AfterNote};
 ghost use Rattle.tape_drive.specs.Crashes.{WithinWrite, WithinNote, WithinFlush, NothingNew, Crashes, IsSure, IsSettled};
 ghost use Rattle.tape_drive.specs.Crashes.{LeavesAllowed};
@@ -87,9 +86,8 @@ pub trait Drive: Drop {
         ensures head { OnOk result (head self.new ≡ Some place) }
         ensures lost { OnErr result (head self.new ≡ None) }
         ensures held { held self.new ≡ held self.old }
-        ensures limits { limits self.new ≡ limits self.old }
-        ensures count { Counted MOST (commands self.old) (commands self.new) }
-        ensures cause { HasCause (faults self.old) (faults self.new) result }
+        ensures command { Commanded MOST (limits self.old) (limits self.new) (commands self.old) (commands self.new)
+            (faults self.old) (faults self.new) result }
         ensures crash { Crashes NothingNew (commands self.old)
             (leaves self.old) (leaves self.new) (left_since self.old) (left_since self.new) };
 
@@ -108,9 +106,8 @@ pub trait Drive: Drop {
             → head self.new ≡ Some (after_read answer at)) }
         ensures lost { OnErr result (head self.new ≡ None) }
         ensures held { held self.new ≡ held self.old }
-        ensures limits { limits self.new ≡ limits self.old }
-        ensures count { Counted MOST (commands self.old) (commands self.new) }
-        ensures cause { HasCause (faults self.old) (faults self.new) result }
+        ensures command { Commanded MOST (limits self.old) (limits self.new) (commands self.old) (commands self.new)
+            (faults self.old) (faults self.new) result }
         ensures crash { Crashes NothingNew (commands self.old)
             (leaves self.old) (leaves self.new) (left_since self.old) (left_since self.new) };
 
@@ -129,9 +126,8 @@ pub trait Drive: Drop {
         ensures untold { held self.old ≡ None → held self.new ≡ None }
         ensures vcr_at_end { (c : Cartridge) → held self.old ≡ Some c → 2 ^ 64 - 1 ≤ c.vcr
             → IsErr result × (held self.new ≡ Some c) }
-        ensures limits { limits self.new ≡ limits self.old }
-        ensures count { Counted MOST (commands self.old) (commands self.new) }
-        ensures cause { HasCause (faults self.old) (faults self.new) result }
+        ensures command { Commanded MOST (limits self.old) (limits self.new) (commands self.old) (commands self.new)
+            (faults self.old) (faults self.new) result }
         ensures crash { (at : Place) (c : Cartridge) → head self.old ≡ Some at → held self.old ≡ Some c
             → Crashes (WithinWrite at.part at.pos (item.Block bytes.now) c) (commands self.old)
             (leaves self.old) (leaves self.new) (left_since self.old) (left_since self.new) };
@@ -149,9 +145,8 @@ pub trait Drive: Drop {
         ensures untold { held self.old ≡ None → held self.new ≡ None }
         ensures vcr_at_end { (c : Cartridge) → held self.old ≡ Some c → 2 ^ 64 - 1 ≤ c.vcr
             → IsErr result × (held self.new ≡ Some c) }
-        ensures limits { limits self.new ≡ limits self.old }
-        ensures count { Counted MOST (commands self.old) (commands self.new) }
-        ensures cause { HasCause (faults self.old) (faults self.new) result }
+        ensures command { Commanded MOST (limits self.old) (limits self.new) (commands self.old) (commands self.new)
+            (faults self.old) (faults self.new) result }
         ensures crash { (at : Place) (c : Cartridge) → head self.old ≡ Some at → held self.old ≡ Some c
             → Crashes (WithinWrite at.part at.pos item.Mark c) (commands self.old)
             (leaves self.old) (leaves self.new) (left_since self.old) (left_since self.new) };
@@ -164,9 +159,8 @@ pub trait Drive: Drop {
         ensures head { OnOk result (head self.new ≡ head self.old) }
         ensures lost { OnErr result (head self.new ≡ None) }
         ensures held { held self.new ≡ held self.old }
-        ensures limits { limits self.new ≡ limits self.old }
-        ensures count { Counted MOST (commands self.old) (commands self.new) }
-        ensures cause { HasCause (faults self.old) (faults self.new) result }
+        ensures command { Commanded MOST (limits self.old) (limits self.new) (commands self.old) (commands self.new)
+            (faults self.old) (faults self.new) result }
         ensures crash { (c : Cartridge) → held self.old ≡ Some c → Crashes (WithinFlush c) (commands self.old)
             (leaves self.old) (leaves self.new) (left_since self.old) (left_since self.new) };
 
@@ -177,9 +171,8 @@ pub trait Drive: Drop {
         ensures head { OnOk result (head self.new ≡ head self.old) }
         ensures lost { OnErr result (head self.new ≡ None) }
         ensures held { held self.new ≡ held self.old }
-        ensures limits { limits self.new ≡ limits self.old }
-        ensures count { Counted MOST (commands self.old) (commands self.new) }
-        ensures cause { HasCause (faults self.old) (faults self.new) result }
+        ensures command { Commanded MOST (limits self.old) (limits self.new) (commands self.old) (commands self.new)
+            (faults self.old) (faults self.new) result }
         ensures crash { Crashes NothingNew (commands self.old)
             (leaves self.old) (leaves self.new) (left_since self.old) (left_since self.new) };
 
@@ -193,9 +186,8 @@ pub trait Drive: Drop {
         ensures settled { OnOk result (IsSettled (held self.new) (leaves self.new)) }
         ensures head { OnOk result (head self.new ≡ head self.old) }
         ensures lost { OnErr result (head self.new ≡ None) }
-        ensures limits { limits self.new ≡ limits self.old }
-        ensures count { Counted MOST (commands self.old) (commands self.new) }
-        ensures cause { HasCause (faults self.old) (faults self.new) result }
+        ensures command { Commanded MOST (limits self.old) (limits self.new) (commands self.old) (commands self.new)
+            (faults self.old) (faults self.new) result }
         ensures crash { (c : Cartridge) → held self.old ≡ Some c
             → Crashes (WithinNote part (kind.Kept note.now)) (commands self.old)
             (leaves self.old) (leaves self.new) (left_since self.old) (left_since self.new) };
@@ -207,9 +199,8 @@ pub trait Drive: Drop {
         ensures head { OnOk result (head self.new ≡ head self.old) }
         ensures lost { OnErr result (head self.new ≡ None) }
         ensures held { held self.new ≡ held self.old }
-        ensures limits { limits self.new ≡ limits self.old }
-        ensures count { Counted MOST (commands self.old) (commands self.new) }
-        ensures cause { HasCause (faults self.old) (faults self.new) result }
+        ensures command { Commanded MOST (limits self.old) (limits self.new) (commands self.old) (commands self.new)
+            (faults self.old) (faults self.new) result }
         ensures crash { Crashes NothingNew (commands self.old)
             (leaves self.old) (leaves self.new) (left_since self.old) (left_since self.new) };
 

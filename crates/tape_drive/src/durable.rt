@@ -3,8 +3,7 @@ ghost use Rattle.std.specs.Prelude.{◌≡◌, ◌≤◌, ◌<◌, ◌-◌, ◌*
 ghost use Rattle.tape_types.specs.declared.cartridges.Cartridge.{Cartridge};
 ghost use Rattle.tape_types.specs.declared.cartridges.Item.TheVariants as item;
 ghost use Rattle.tape_types.specs.Cartridges.{items_of, capacity};
-ghost use Rattle.tape_types.specs.Counts.{HasCause};
-ghost use Rattle.tape_drive.specs.Commands.{Counted, item_at};
+ghost use Rattle.tape_drive.specs.Commands.{Commanded, item_at};
 ghost use Rattle.tape_drive.specs.Crashes.{Crashes, LeavesAllowed, WithinDurably};
 
 use crate::drive::{Drive, DriveErr};
@@ -26,9 +25,8 @@ pub fn write_durably<D: Drive>(drive: &mut D, place: Place, bytes: &[u8]) -> Res
     ensures any_moment { (c : Cartridge) → D.held drive.old ≡ Some c
         → Crashes (WithinDurably place.part place.pos (item.Block bytes.now) c) (D.commands drive.old)
         (D.leaves drive.old) (D.leaves drive.new) (D.left_since drive.old) (D.left_since drive.new) }
-    ensures limits { D.limits drive.new ≡ D.limits drive.old }
-    ensures count { Counted (3 * D.MOST) (D.commands drive.old) (D.commands drive.new) }
-    ensures cause { HasCause (D.faults drive.old) (D.faults drive.new) result }
+    ensures command { Commanded (3 * D.MOST) (D.limits drive.old) (D.limits drive.new)
+        (D.commands drive.old) (D.commands drive.new) (D.faults drive.old) (D.faults drive.new) result }
 {
     match drive.locate(place) {
         Ok(()) => match drive.write(bytes) {

@@ -11,8 +11,8 @@ returns-in-Ok-mark g c = record {
   made = search rules;
   told = λ h is. c.in-Ok-mark.ensures.told c.args.place h c.in-Ok.ensures.head (c.in-Ok.ensures.held ∙ is);
   crash = put_crashes g.D.Drive c.args.place item.Mark _ _ _ c.in-Ok.ensures.held c.in-Ok.ensures.head
-      c.in-Ok.ensures.count.later c.in-Ok.ensures.crash c.in-Ok-mark.ensures.crash;
-  one_command = λ write short. absurd (omega (arith, short, c.in-Ok.ensures.count.at_least, c.in-Ok-mark.ensures.count.at_least));
+      c.in-Ok.ensures.command.count.later c.in-Ok.ensures.crash c.in-Ok-mark.ensures.crash;
+  one_command = λ write short. absurd (omega (arith, short, c.in-Ok.ensures.command.count.at_least, c.in-Ok-mark.ensures.command.count.at_least));
 }
 
 pub returns-in-Err-mark : goal.returns-in-Err-mark
@@ -21,8 +21,8 @@ returns-in-Err-mark g c = record {
   made = search rules;
   told = λ h is. c.in-Err-mark.ensures.told c.args.place h c.in-Ok.ensures.head (c.in-Ok.ensures.held ∙ is);
   crash = put_crashes g.D.Drive c.args.place item.Mark _ _ _ c.in-Ok.ensures.held c.in-Ok.ensures.head
-      c.in-Ok.ensures.count.later c.in-Ok.ensures.crash c.in-Err-mark.ensures.crash;
-  one_command = λ write short. absurd (omega (arith, short, c.in-Ok.ensures.count.at_least, c.in-Err-mark.ensures.count.at_least));
+      c.in-Ok.ensures.command.count.later c.in-Ok.ensures.crash c.in-Err-mark.ensures.crash;
+  one_command = λ write short. absurd (omega (arith, short, c.in-Ok.ensures.command.count.at_least, c.in-Err-mark.ensures.command.count.at_least));
 }
 
 pub mark-requires-clause-allowed : goal.mark-requires-clause-allowed

@@ -11,8 +11,8 @@ returns-in-Ok-write g c = record {
   made = search rules;
   told = λ h is. c.in-Ok-write.ensures.told c.args.place h c.in-Ok.ensures.head (c.in-Ok.ensures.held ∙ is);
   crash = put_crashes g.D.Drive c.args.place (item.Block c.args.bytes.now) _ _ _ c.in-Ok.ensures.held c.in-Ok.ensures.head
-      c.in-Ok.ensures.count.later c.in-Ok.ensures.crash c.in-Ok-write.ensures.crash;
-  one_command = λ write short. absurd (omega (arith, short, c.in-Ok.ensures.count.at_least, c.in-Ok-write.ensures.count.at_least));
+      c.in-Ok.ensures.command.count.later c.in-Ok.ensures.crash c.in-Ok-write.ensures.crash;
+  one_command = λ write short. absurd (omega (arith, short, c.in-Ok.ensures.command.count.at_least, c.in-Ok-write.ensures.command.count.at_least));
 }
 
 pub returns-in-Err-write : goal.returns-in-Err-write
@@ -21,8 +21,8 @@ returns-in-Err-write g c = record {
   made = search rules;
   told = λ h is. c.in-Err-write.ensures.told c.args.place h c.in-Ok.ensures.head (c.in-Ok.ensures.held ∙ is);
   crash = put_crashes g.D.Drive c.args.place (item.Block c.args.bytes.now) _ _ _ c.in-Ok.ensures.held c.in-Ok.ensures.head
-      c.in-Ok.ensures.count.later c.in-Ok.ensures.crash c.in-Err-write.ensures.crash;
-  one_command = λ write short. absurd (omega (arith, short, c.in-Ok.ensures.count.at_least, c.in-Err-write.ensures.count.at_least));
+      c.in-Ok.ensures.command.count.later c.in-Ok.ensures.crash c.in-Err-write.ensures.crash;
+  one_command = λ write short. absurd (omega (arith, short, c.in-Ok.ensures.command.count.at_least, c.in-Err-write.ensures.command.count.at_least));
 }
 
 pub write-requires-clause-allowed : goal.write-requires-clause-allowed

@@ -11,6 +11,6 @@ returns-in-Ok-read_blocks g c =
     document_step g.D.Drive c.args.start c.args.drive.now c.locate.new.self c.read_blocks.new.drive c.args.part c.args.place _ c.in-Ok-read_blocks.same
     c.args.document.now.items c.read_blocks.new.document.items c.requires.since c.requires.place c.requires.known refl
     (one_look g.D.Drive g.D.Drive.MOST c.args.drive.now c.locate.new.self (g.met.D.Drive.counts_now c.args.drive.now)
-    c.in-Ok.ensures.held c.in-Ok.ensures.limits c.in-Ok.ensures.count c.in-Ok.ensures.crash)
-    c.in-Ok.ensures.cause.later c.in-Ok.ensures.head c.in-Ok-read_blocks.ensures.looks c.in-Ok-read_blocks.ensures.cause.later c.in-Ok-read_blocks.ensures.told
+    c.in-Ok.ensures.held c.in-Ok.ensures.command c.in-Ok.ensures.crash)
+    c.in-Ok.ensures.command.cause.later c.in-Ok.ensures.head c.in-Ok-read_blocks.ensures.looks c.in-Ok-read_blocks.ensures.cause.later c.in-Ok-read_blocks.ensures.told
     (λ same. c.in-Ok-read_blocks.ensures.same same ∙ c.in_ok-reserve_exact.ensures.items)

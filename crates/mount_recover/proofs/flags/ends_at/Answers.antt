@@ -28,8 +28,8 @@ returns-in-Ok-read g c =
     end_step g.D.Drive c.args.start c.args.drive.now c.locate.new.self c.read.new.self c.args.part c.args.count c.is_end.result c.in-Ok-read.got c.read.new.buf.items
     c.requires.since c.requires.front
     (one_look g.D.Drive g.D.Drive.MOST c.args.drive.now c.locate.new.self (g.met.D.Drive.counts_now c.args.drive.now)
-    c.in-Ok.ensures.held c.in-Ok.ensures.limits c.in-Ok.ensures.count c.in-Ok.ensures.crash)
-    c.in-Ok.ensures.cause.later c.in-Ok.ensures.head
+    c.in-Ok.ensures.held c.in-Ok.ensures.command c.in-Ok.ensures.crash)
+    c.in-Ok.ensures.command.cause.later c.in-Ok.ensures.head
     (one_look g.D.Drive g.D.Drive.MOST c.locate.new.self c.read.new.self (g.met.D.Drive.counts_now c.locate.new.self)
-    c.in-Ok-read.ensures.held c.in-Ok-read.ensures.limits c.in-Ok-read.ensures.count c.in-Ok-read.ensures.crash)
-    c.in-Ok-read.ensures.cause.later c.in-Ok-read.ensures.item c.is_end.ensures
+    c.in-Ok-read.ensures.held c.in-Ok-read.ensures.command c.in-Ok-read.ensures.crash)
+    c.in-Ok-read.ensures.command.cause.later c.in-Ok-read.ensures.item c.is_end.ensures

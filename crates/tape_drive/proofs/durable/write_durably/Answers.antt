@@ -73,20 +73,20 @@ returns-in-Err-clause-any_moment g c held is = lost_crashes c.args.place (item.B
 pub returns-in-Err-write-clause-any_moment : goal.returns-in-Err-write-clause-any_moment
 returns-in-Err-write-clause-any_moment g c held is =
     widened (λ before image within. inl within)
-    (put_crashes c.args.place (item.Block c.args.bytes.now) held c.in-Ok.ensures.count.later c.in-Ok.ensures.crash
+    (put_crashes c.args.place (item.Block c.args.bytes.now) held c.in-Ok.ensures.command.count.later c.in-Ok.ensures.crash
     (c.in-Err-write.ensures.crash c.args.place held c.in-Ok.ensures.head (c.in-Ok.ensures.held ∙ is)))
 
 pub returns-in-Ok-flush-clause-any_moment : goal.returns-in-Ok-flush-clause-any_moment
 returns-in-Ok-flush-clause-any_moment g c held is =
     let told = c.in-Ok-write.ensures.told c.args.place held c.in-Ok.ensures.head (c.in-Ok.ensures.held ∙ is) in
-    flushed_crashes c.args.place (item.Block c.args.bytes.now) held told.0 told.2 c.in-Ok.ensures.count.later c.in-Ok-write.ensures.count.later
+    flushed_crashes c.args.place (item.Block c.args.bytes.now) held told.0 told.2 c.in-Ok.ensures.command.count.later c.in-Ok-write.ensures.command.count.later
     c.in-Ok.ensures.crash (c.in-Ok-write.ensures.crash c.args.place held c.in-Ok.ensures.head (c.in-Ok.ensures.held ∙ is))
     (c.in-Ok-flush.ensures.crash told.0 told.1)
 
 pub returns-in-Err-flush-clause-any_moment : goal.returns-in-Err-flush-clause-any_moment
 returns-in-Err-flush-clause-any_moment g c held is =
     let told = c.in-Ok-write.ensures.told c.args.place held c.in-Ok.ensures.head (c.in-Ok.ensures.held ∙ is) in
-    flushed_crashes c.args.place (item.Block c.args.bytes.now) held told.0 told.2 c.in-Ok.ensures.count.later c.in-Ok-write.ensures.count.later
+    flushed_crashes c.args.place (item.Block c.args.bytes.now) held told.0 told.2 c.in-Ok.ensures.command.count.later c.in-Ok-write.ensures.command.count.later
     c.in-Ok.ensures.crash (c.in-Ok-write.ensures.crash c.args.place held c.in-Ok.ensures.head (c.in-Ok.ensures.held ∙ is))
     (c.in-Err-flush.ensures.crash told.0 told.1)
 

@@ -14,8 +14,8 @@ loop-reading-preserved g c = (
   c.in-Ok.ensures.room,
   goes_on g.D.Drive c.args.drive.now c.loop-reading.drive c.args.part c.args.positions c.args.before c.loop-reading.reading c.loop-reading.invariant.1
       c.in-Ok.answer c.read.new.buf.items c.in-Ok.ensures.item c.read.new.self c.go.new.reading (sym c.ends.ensures ∙ c.if-ends.false) c.loop-reading-test.true
-      c.in-Ok-go.ensures.ok c.in-Ok.ensures.head c.in-Ok.ensures.cause.later
-      (one_look g.D.Drive g.D.Drive.MOST c.loop-reading.drive c.read.new.self (g.met.D.Drive.counts_now c.loop-reading.drive) c.in-Ok.ensures.held c.in-Ok.ensures.limits c.in-Ok.ensures.count c.in-Ok.ensures.crash),
+      c.in-Ok-go.ensures.ok c.in-Ok.ensures.head c.in-Ok.ensures.command.cause.later
+      (one_look g.D.Drive g.D.Drive.MOST c.loop-reading.drive c.read.new.self (g.met.D.Drive.counts_now c.loop-reading.drive) c.in-Ok.ensures.held c.in-Ok.ensures.command c.in-Ok.ensures.crash),
 )
 
 pub returns-in-Err-go-clause-told : goal.returns-in-Err-go-clause-told
@@ -31,14 +31,14 @@ returns-clause-told g c =
 pub returns-in-Err-clause-looks : goal.returns-in-Err-clause-looks
 returns-in-Err-clause-looks g c =
     looks_after g.D.Drive c.args.drive.now c.loop-reading.drive c.args.part c.args.positions c.args.before c.loop-reading.reading c.loop-reading.invariant.1 c.read.new.self c.loop-reading-test.true
-    (one_look g.D.Drive g.D.Drive.MOST c.loop-reading.drive c.read.new.self (g.met.D.Drive.counts_now c.loop-reading.drive) c.read.ensures.held c.read.ensures.limits c.read.ensures.count c.read.ensures.crash)
+    (one_look g.D.Drive g.D.Drive.MOST c.loop-reading.drive c.read.new.self (g.met.D.Drive.counts_now c.loop-reading.drive) c.read.ensures.held c.read.ensures.command c.read.ensures.crash)
 
 pub returns-then-ends-clause-looks : goal.returns-then-ends-clause-looks
 returns-then-ends-clause-looks g c =
     looks_after g.D.Drive c.args.drive.now c.loop-reading.drive c.args.part c.args.positions c.args.before c.loop-reading.reading c.loop-reading.invariant.1 c.read.new.self c.loop-reading-test.true
-    (one_look g.D.Drive g.D.Drive.MOST c.loop-reading.drive c.read.new.self (g.met.D.Drive.counts_now c.loop-reading.drive) c.read.ensures.held c.read.ensures.limits c.read.ensures.count c.read.ensures.crash)
+    (one_look g.D.Drive g.D.Drive.MOST c.loop-reading.drive c.read.new.self (g.met.D.Drive.counts_now c.loop-reading.drive) c.read.ensures.held c.read.ensures.command c.read.ensures.crash)
 
 pub returns-in-Err-go-clause-looks : goal.returns-in-Err-go-clause-looks
 returns-in-Err-go-clause-looks g c =
     looks_after g.D.Drive c.args.drive.now c.loop-reading.drive c.args.part c.args.positions c.args.before c.loop-reading.reading c.loop-reading.invariant.1 c.read.new.self c.loop-reading-test.true
-    (one_look g.D.Drive g.D.Drive.MOST c.loop-reading.drive c.read.new.self (g.met.D.Drive.counts_now c.loop-reading.drive) c.read.ensures.held c.read.ensures.limits c.read.ensures.count c.read.ensures.crash)
+    (one_look g.D.Drive g.D.Drive.MOST c.loop-reading.drive c.read.new.self (g.met.D.Drive.counts_now c.loop-reading.drive) c.read.ensures.held c.read.ensures.command c.read.ensures.crash)

@@ -28,4 +28,4 @@ returns-clause-looks g c =
     let four = least c.args.part (g.D.Drive.limits c.args.drive.now) (subst (λ (l : Limits). IsLimits l) c.limits.ensures.value c.limits.ensures.range) in
     more_looks g.D.Drive g.D.Drive.MOST ((capacity c.args.part (g.D.Drive.limits c.args.drive.now) - 3) * g.D.Drive.MOST) c.args.drive.now c.locate.new.self
     (one_of (capacity c.args.part (g.D.Drive.limits c.args.drive.now) - 3) g.D.Drive.MOST (omega (arith, four)))
-    (one_look g.D.Drive g.D.Drive.MOST c.args.drive.now c.locate.new.self (g.met.D.Drive.counts_now c.args.drive.now) c.locate.ensures.held c.locate.ensures.limits c.locate.ensures.count c.locate.ensures.crash)
+    (one_look g.D.Drive g.D.Drive.MOST c.args.drive.now c.locate.new.self (g.met.D.Drive.counts_now c.args.drive.now) c.locate.ensures.held c.locate.ensures.command c.locate.ensures.crash)

@@ -3,4 +3,4 @@ use Rattle.file_drive.proofs.tape.Opened.mark.Goals as goal
 
 pub invariant_of-self-in-Ok : goal.invariant_of-self-in-Ok
 invariant_of-self-in-Ok g c =
-    (c.mark.ensures.ran c.args.at c.in-Ok.ensures.head).ends.limits ∙ c.locate.ensures.looked.ends.limits ∙ c.self.invariant
+    (c.mark.ensures.ran c.args.at c.in-Ok.ensures.head).ends.command.limits ∙ c.locate.ensures.looked.ends.command.limits ∙ c.self.invariant

@@ -8,9 +8,7 @@ locate-tells g x c = record {
   head = c.ensures.head;
   lost = c.ensures.looked.ends.lost;
   held = c.ensures.looked.held;
-  limits = c.ensures.looked.ends.limits;
-  count = c.ensures.looked.ends.count;
-  cause = c.ensures.looked.ends.cause;
+  command = c.ensures.looked.ends.command;
   crash = crash_at g.B.ByteDisk c.result c.args.self.now c.new.self.now c.ensures.looked.ends c.ensures.looked.crash;
 }
 
@@ -25,9 +23,7 @@ read-tells g x c =
       head = heads_read g.B.ByteDisk c.result c.new.buf.now.items c.args.self.now c.new.self.now c.ensures.ran;
       lost = ran.looked.ends.lost;
       held = ran.looked.held;
-      limits = ran.looked.ends.limits;
-      count = ran.looked.ends.count;
-      cause = ran.looked.ends.cause;
+      command = ran.looked.ends.command;
       crash = crash_at g.B.ByteDisk c.result c.args.self.now c.new.self.now ran.looked.ends ran.looked.crash;
     }
 
@@ -41,9 +37,7 @@ write-tells g x c =
       told = λ at y head held. (c.ensures.ran at head).told y held;
       untold = ran.untold;
       vcr_at_end = ran.at_end;
-      limits = ran.ends.limits;
-      count = ran.ends.count;
-      cause = ran.ends.cause;
+      command = ran.ends.command;
       crash = λ at y head held. let r = c.ensures.ran at head in crash_at g.B.ByteDisk c.result c.args.self.now c.new.self.now r.ends (r.crash y held);
     }
 
@@ -57,9 +51,7 @@ mark-tells g x c =
       told = λ at y head held. (c.ensures.ran at head).told y held;
       untold = ran.untold;
       vcr_at_end = ran.at_end;
-      limits = ran.ends.limits;
-      count = ran.ends.count;
-      cause = ran.ends.cause;
+      command = ran.ends.command;
       crash = λ at y head held. let r = c.ensures.ran at head in crash_at g.B.ByteDisk c.result c.args.self.now c.new.self.now r.ends (r.crash y held);
     }
 
@@ -69,9 +61,7 @@ flush-tells g x c = record {
   head = c.ensures.flushed.head;
   lost = c.ensures.flushed.ends.lost;
   held = c.ensures.flushed.held;
-  limits = c.ensures.flushed.ends.limits;
-  count = c.ensures.flushed.ends.count;
-  cause = c.ensures.flushed.ends.cause;
+  command = c.ensures.flushed.ends.command;
   crash = λ y held. crash_at g.B.ByteDisk c.result c.args.self.now c.new.self.now c.ensures.flushed.ends (c.ensures.flushed.crash y held);
 }
 
@@ -82,9 +72,7 @@ read_note-tells g x c = record {
   head = c.ensures.head;
   lost = c.ensures.looked.ends.lost;
   held = c.ensures.looked.held;
-  limits = c.ensures.looked.ends.limits;
-  count = c.ensures.looked.ends.count;
-  cause = c.ensures.looked.ends.cause;
+  command = c.ensures.looked.ends.command;
   crash = crash_at g.B.ByteDisk c.result c.args.self.now c.new.self.now c.ensures.looked.ends c.ensures.looked.crash;
 }
 
@@ -95,9 +83,7 @@ write_note-tells g x c = record {
   settled = c.ensures.settled;
   head = c.ensures.ran.head;
   lost = c.ensures.ran.ends.lost;
-  limits = c.ensures.ran.ends.limits;
-  count = c.ensures.ran.ends.count;
-  cause = c.ensures.ran.ends.cause;
+  command = c.ensures.ran.ends.command;
   crash = λ y held. crash_at g.B.ByteDisk c.result c.args.self.now c.new.self.now c.ensures.ran.ends (c.ensures.ran.crash y held);
 }
 
@@ -108,8 +94,6 @@ vcr-tells g x c = record {
   head = c.ensures.head;
   lost = c.ensures.looked.ends.lost;
   held = c.ensures.looked.held;
-  limits = c.ensures.looked.ends.limits;
-  count = c.ensures.looked.ends.count;
-  cause = c.ensures.looked.ends.cause;
+  command = c.ensures.looked.ends.command;
   crash = crash_at g.B.ByteDisk c.result c.args.self.now c.new.self.now c.ensures.looked.ends c.ensures.looked.crash;
 }

@@ -20,7 +20,7 @@ use Rattle.tape_drive.proofs.commands.MemDriveDrive.TheImpl.Goals as goal
 pub locate-tells : goal.locate-tells
 locate-tells x c =
     let m = locate_meets (Unit {0}) DriveErr c.result c.args.place c.args.self.now c.new.self.now c.ensures.sane c.ensures.ran in
-    record { head = search rules; lost = m.lost; held = search rules; limits = m.limits; count = m.count; cause = m.cause; crash = m.crash }
+    record { head = search rules; lost = m.lost; held = search rules; command = m.command; crash = m.crash }
 
 pub read-tells : goal.read-tells
 read-tells x c =
@@ -39,9 +39,7 @@ read-tells x c =
       head = read_head DriveErr at buf old new is c.result ran;
       lost = m.lost;
       held = ap Some (read_held DriveErr c.result at buf old new ran);
-      limits = m.limits;
-      count = m.count;
-      cause = m.cause;
+      command = m.command;
       crash = m.crash;
     }
 
@@ -60,9 +58,7 @@ write-tells x c =
       told = put_held (Unit {0}) DriveErr cmd.Write at block old new is c.result c.ensures.sane ran;
       untold = λ none. cc;
       vcr_at_end = put_at_end (Unit {0}) DriveErr cmd.Write at block old new is c.result ran;
-      limits = m.limits;
-      count = m.count;
-      cause = m.cause;
+      command = m.command;
       crash = put_crash (Unit {0}) DriveErr cmd.Write at block old new is c.result c.ensures.sane ran;
     }
 
@@ -80,9 +76,7 @@ mark-tells x c =
       told = put_held (Unit {0}) DriveErr cmd.Mark at item.Mark old new is c.result c.ensures.sane ran;
       untold = λ none. cc;
       vcr_at_end = put_at_end (Unit {0}) DriveErr cmd.Mark at item.Mark old new is c.result ran;
-      limits = m.limits;
-      count = m.count;
-      cause = m.cause;
+      command = m.command;
       crash = put_crash (Unit {0}) DriveErr cmd.Mark at item.Mark old new is c.result c.ensures.sane ran;
     }
 
@@ -96,9 +90,7 @@ flush-tells x c =
       head = search rules;
       lost = m.lost;
       held = search rules;
-      limits = m.limits;
-      count = m.count;
-      cause = m.cause;
+      command = m.command;
       crash = λ held is. subst (λ (d : Cartridge). Crashes (WithinFlush d) old.commands (Leaves old.held old.acts) (Leaves new.held new.acts) (LeftSince old.commands old.held old.acts) (LeftSince new.commands new.held new.acts)) (cc) m.crash;
     }
 
@@ -113,9 +105,7 @@ read_note-tells x c =
       head = search rules;
       lost = m.lost;
       held = search rules;
-      limits = m.limits;
-      count = m.count;
-      cause = m.cause;
+      command = m.command;
       crash = m.crash;
     }
 
@@ -137,9 +127,7 @@ write_note-tells x c =
       settled = ran_settles (Unit {0}) DriveErr c.result cmd.WriteNote (Noted part before) (with_note part kept old.held) old new c.ensures.ran;
       head = search rules;
       lost = m.lost;
-      limits = m.limits;
-      count = m.count;
-      cause = m.cause;
+      command = m.command;
       crash = λ d is. m.crash;
     }
 
@@ -154,8 +142,6 @@ vcr-tells x c =
       head = search rules;
       lost = m.lost;
       held = search rules;
-      limits = m.limits;
-      count = m.count;
-      cause = m.cause;
+      command = m.command;
       crash = m.crash;
     }
