@@ -26,7 +26,7 @@ use Rattle.head_core.specs.Steps.{most_commands}
 use Rattle.head_core.specs.declared.work.StepDone.{StepDone}
 use Rattle.event_laws.specs.Trail.{IsTrail, after, after_all, is_trail_from, of_call, steps}
 use Rattle.event_laws.specs.Waiting as waiting
-use Rattle.event_laws.specs.Waiting.{State, first_of, same_part, waiting_op}
+use Rattle.event_laws.specs.Waiting.{State, first_of, waiting_op}
 use Rattle.tape_layout.specs.Ops.{is_flush, place_of}
 use Rattle.tape_layout.specs.declared.ops.Op.{Op}
 use Rattle.space_laws.specs.Standing.{Given, Standing, is_on, standing}
@@ -145,19 +145,19 @@ module _ {D : Type 0} (drive : Ghosts D) (fixed : Fixed D) (plan : Plan drive fi
 
   pub now_is : now ≡ new
   now_is = λ i. record new {
-    stock = (sym did.stock) i;
-    on = (sym did.on) i;
-    trail = record new.trail { events = (sym did.events) i; acks = (sym did.acks) i; kept = (sym did.kept) i };
+    stock = (sym did.done.stock) i;
+    on = (sym did.done.on) i;
+    trail = record new.trail { events = (sym did.done.events) i; acks = (sym did.done.acks) i; kept = (sym did.done.kept) i };
     listed = record new.listed {
-      history = (sym did.listed.history) i;
-      replies = (sym did.replies) i;
-      marks = (sym did.listed.marks) i;
-      calls = (sym did.listed.calls) i;
-      sessions = (sym did.listed.sessions) i;
+      history = (sym did.done.listed.history) i;
+      replies = (sym did.done.replies) i;
+      marks = (sym did.done.listed.marks) i;
+      calls = (sym did.done.listed.calls) i;
+      sessions = (sym did.done.listed.sessions) i;
     };
-    queue = (sym did.queue) i;
-    reads = (sym did.reads) i;
-    cached = (sym did.cached) i;
+    queue = (sym did.done.queue) i;
+    reads = (sym did.done.reads) i;
+    cached = (sym did.done.cached) i;
   }
 
   abbrev before : View D
@@ -167,10 +167,10 @@ module _ {D : Type 0} (drive : Ghosts D) (fixed : Fixed D) (plan : Plan drive fi
   after_it = view_of fixed next_at now
 
   trail : is_trail_from st added ≡ true
-  trail = trail_behind old.trail.events added (subst IsTrail did.events did.trail)
+  trail = trail_behind old.trail.events added (subst IsTrail did.done.events did.done.trail)
 
   standing_are : map headed (op ∷ later) ≡ waiting.ops st
-  standing_are = ap (map headed) (sym did.first) ∙ kept.order.orderly.standing
+  standing_are = ap (map headed) (sym did.done.first) ∙ kept.order.orderly.standing
 
   waits : waiting_op st ≡ Some (headed op)
   waits = first_waits st (place_of op) None (synced_events tickets) op later trail standing_are
@@ -234,10 +234,10 @@ module _ {D : Type 0} (drive : Ghosts D) (fixed : Fixed D) (plan : Plan drive fi
   behind none = did.step.made.head ∙ op_behind op end (drive.head old.drive) did.well did.step.ends none
 
   on_tape : IsOnTape (seen drive new.drive) (first_of old.stock.layout.ops) (Worked (place_of op) None)
-  on_tape = subst (λ (l : List Op). IsOnTape (seen drive new.drive) (first_of l) (Worked (place_of op) None)) (sym did.first)
+  on_tape = subst (λ (l : List Op). IsOnTape (seen drive new.drive) (first_of l) (Worked (place_of op) None)) (sym did.done.first)
       (on_tape_by (drive.held new.drive) (λ c. IfSome (item_of op) (λ x. item_at (place_of op) c ≡ Some x))
       (λ c held. let t = was_told drive op end old.drive new.drive did.step c held in
-      op_stands op end t.0 c did.well (tapes_tell.reaches planned op later t.0 (subst (λ (l : List Op). IsOnWay planned l t.0) did.first (tied.way t.0 t.1))) t.2))
+      op_stands op end t.0 c did.well (tapes_tell.reaches planned op later t.0 (subst (λ (l : List Op). IsOnWay planned l t.0) did.done.first (tied.way t.0 t.1))) t.2))
 
   tape_by : (t : ℕ) → IsOnTape (seen drive new.drive) (first_of old.stock.layout.ops) (Synced t)
   tape_by t = by (first_of old.stock.layout.ops)
@@ -298,7 +298,7 @@ module _ {D : Type 0} (drive : Ghosts D) (fixed : Fixed D) (plan : Plan drive fi
           ∙ ap (λ c. the_replies.Answer (answer (standing (given before (seen drive fixed.first)) old.on old.listed.history k).tree c)) its)
 
   truth : AnswersTruly (seen drive fixed.first) before after_it
-  truth = record { came = came; added = added; events = refl; ops = ap (λ (l : List Op). drop 1 l) (sym did.first) }
+  truth = record { came = came; added = added; events = refl; ops = ap (λ (l : List Op). drop 1 l) (sym did.done.first) }
 
   pub stepped : Stepped drive fixed before after_it added
   stepped = record {
@@ -311,7 +311,7 @@ module _ {D : Type 0} (drive : Ghosts D) (fixed : Fixed D) (plan : Plan drive fi
     kept = sym (ap (λ l. old.trail.kept ++ l) (none_drained st (place_of op) tickets) ∙ append-nil old.trail.kept);
     order = order;
     truth = λ can. truth;
-    driven = λ can. (op, end, did.first, did.step, did.well);
+    driven = λ can. (op, end, did.done.first, did.step, did.well);
   }
 
   -- ---- what stays tied
@@ -332,7 +332,7 @@ module _ {D : Type 0} (drive : Ghosts D) (fixed : Fixed D) (plan : Plan drive fi
   same = same_standing op g old.on old.listed.history here
 
   old_plan : IsPlan planned (op ∷ later)
-  old_plan = subst (IsPlan planned) did.first tied.plan
+  old_plan = subst (IsPlan planned) did.done.first tied.plan
 
   stock : IsStock (tape_on planned) g (is_on g.mounted (on_done op here old.on) here) stands (less_stock op later old.stock)
   stock = subst (λ (s : Standing). IsStock (tape_on planned) g (is_on g.mounted (on_done op here old.on) here) s (less_stock op later old.stock)) (sym same)
@@ -342,7 +342,7 @@ module _ {D : Type 0} (drive : Ghosts D) (fixed : Fixed D) (plan : Plan drive fi
   way : (c : Cartridge) → drive.held new.drive ≡ Some c → IsOnWay planned later c
   way c held =
       let t = was_told drive op end old.drive new.drive did.step c held in
-      ways_go_on.done planned op later end t.0 c (subst (λ (l : List Op). IsOnWay planned l t.0) did.first (tied.way t.0 t.1)) t.2 did.well
+      ways_go_on.done planned op later end t.0 c (subst (λ (l : List Op). IsOnWay planned l t.0) did.done.first (tied.way t.0 t.1)) t.2 did.well
 
   pub tied_on : IsTied drive fixed planned now
   tied_on = record {
@@ -351,7 +351,7 @@ module _ {D : Type 0} (drive : Ghosts D) (fixed : Fixed D) (plan : Plan drive fi
     told = λ none. tied.told (was_untold drive op end old.drive new.drive did.step none);
     queue = tied.queue ∙ sym leaves.requests;
     arrived = tied.arrived ∙ sym leaves.arrived;
-    none_due = subst (λ (es : List Event). due_ticket (after_all es) ≡ None) did.events did.none_due;
+    none_due = subst (λ (es : List Event). due_ticket (after_all es) ≡ None) did.done.events did.done.none_due;
     on_is = on_within op old.on here tied.on_is;
     calls = tied.calls;
     sessions = tied.sessions;
@@ -361,15 +361,15 @@ module _ {D : Type 0} (drive : Ghosts D) (fixed : Fixed D) (plan : Plan drive fi
     grouped = leaves.grouped stands.space (subst (λ (s : Standing). IsGrouped s.space st) (sym same) tied.grouped);
     files = files_done stands.files planned op later old_plan
         (subst (λ (s : Standing). AreFilesRight s.files (ends_in planned) (op ∷ later)) (sym same)
-        (subst (λ (l : List Op). AreFilesRight stood.files (ends_in planned) l) did.first tied.files));
+        (subst (λ (l : List Op). AreFilesRight stood.files (ends_in planned) l) did.done.first tied.files));
     room = tied.room;
     plan = plans_hold.done planned op later old_plan;
     way = way;
     reads = reads_done g (on_done op here old.on) old.on old.listed.history planned (drive.held fixed.first) st (after_all (old.trail.events ++ added))
         (λ k. same_standing op g old.on old.listed.history k) leaves.requests op later old.reads
-        (subst (λ (l : List Op). AreReading g old.on old.listed.history planned (drive.held fixed.first) l st old.reads) did.first tied.reads);
+        (subst (λ (l : List Op). AreReading g old.on old.listed.history planned (drive.held fixed.first) l st old.reads) did.done.first tied.reads);
     cached = cached_done planned op later (drive.held fixed.first) old.cached
-        (subst (λ (l : List Op). All (IsKeptRightly planned l (drive.held fixed.first)) old.cached) did.first tied.cached);
+        (subst (λ (l : List Op). All (IsKeptRightly planned l (drive.held fixed.first)) old.cached) did.done.first tied.cached);
   }
 
   -- a step that did the first op shows all that is asked, and leaves the volume tied

@@ -9,7 +9,7 @@ use Rattle.session_script.specs.declared.logs.Event.TheVariants.{Wants, Queues, 
 use Rattle.session_script.specs.declared.logs.Reply.{Reply}
 use Rattle.event_laws.specs.Trail.{after_all}
 use Rattle.event_laws.specs.Waiting as waiting
-use Rattle.event_laws.specs.Waiting.{Waiter, waiting_op, first_of}
+use Rattle.event_laws.specs.Waiting.{Waiter}
 use Rattle.tape_layout.specs.declared.ops.Op.{Op}
 use Rattle.serving_promise.specs.Faults.{kept_for}
 use Rattle.serving_promise.specs.Served.{Fixed, View, headed}
@@ -75,12 +75,12 @@ module _ {D : Type 0} (drive : Ghosts D) (who : ℕ) (old new : Parts D) (none :
   none_came same = absurd (omega (arith, some, ap (λ (l : List (ℕ × Twin)). length (kept_for who l)) same, ap (λ (l : List Twin). length l) none))
 
   untold_by : (added : List Event) → Steps drive old new added → new.listed.replies ≡ old.listed.replies
-  untold_by all (does op end tickets did) = none_came did.kept
+  untold_by all (does op end tickets did) = none_came did.done.kept
   untold_by all (fails op later counts did) =
-      did.replies ∙ told_none (state old.trail).syncs (state old.trail).drains counts old.listed.replies
-      (λ kept_none. none_came (did.kept ∙ ap (λ l. old.trail.kept ++ l) kept_none ∙ append-nil old.trail.kept))
-  untold_by all (reads ticket place got block did) = none_came did.only.kept
-  untold_by all (misses ticket place counts did) = none_came did.only.kept
+      did.told.replies ∙ told_none (state old.trail).syncs (state old.trail).drains counts old.listed.replies
+      (λ kept_none. none_came (did.told.kept ∙ ap (λ l. old.trail.kept ++ l) kept_none ∙ append-nil old.trail.kept))
+  untold_by all (reads ticket place got block did) = none_came did.taken.only.kept
+  untold_by all (misses ticket place counts did) = none_came did.missed.only.kept
 
 -- where a step was made, a drain's turn went so
 pub went_step : {D : Type 0} (drive : Ghosts D) (fixed : Fixed D) (planned : Items) (next : Option Moment) (who : ℕ) (old new : Parts D) (added : List Event)

@@ -14,10 +14,10 @@ use Rattle.state_laws.specs.Stepping.{Steps, does, fails, misses, reads}
 pub steps_driven : {D : Type 0} (drive : Ghosts D) (fixed : Fixed D) (next : Option Moment) (old new : Parts D)
     (added : List Event) → Steps drive old new added
     → AreDriven drive (view_of fixed next old) (view_of fixed next new) added
-steps_driven drive fixed next old new all (does op end tickets did) = (op, end, did.first, did.step, did.well)
+steps_driven drive fixed next old new all (does op end tickets did) = (op, end, did.done.first, did.step, did.well)
 steps_driven drive fixed next old new all (fails op later counts did) =
-    (op, later, counts, did.first, ap (λ (k : Stocked). k.layout.ops) did.stock, did.step)
+    (op, later, counts, did.first, ap (λ (k : Stocked). k.layout.ops) did.told.stock, did.step)
 steps_driven drive fixed next old new all (reads ticket place got block did) =
-    (outcome.Read got, ap (λ (k : Stocked). k.layout.ops) did.only.stock, did.step)
+    (outcome.Read got, ap (λ (k : Stocked). k.layout.ops) did.taken.only.stock, did.step)
 steps_driven drive fixed next old new all (misses ticket place counts did) =
-    (outcome.Failed counts, ap (λ (k : Stocked). k.layout.ops) did.only.stock, did.step)
+    (outcome.Failed counts, ap (λ (k : Stocked). k.layout.ops) did.missed.only.stock, did.step)

@@ -144,19 +144,19 @@ module _ {D : Type 0} (drive : Ghosts D) (fixed : Fixed D) (plan : Plan drive fi
 
   now_is : now ≡ new
   now_is = λ i. record new {
-    stock = (sym did.stock) i;
-    on = (sym did.on) i;
-    trail = record new.trail { events = (sym did.events) i; acks = (sym did.acks) i; kept = (sym did.kept) i };
+    stock = (sym did.told.stock) i;
+    on = (sym did.told.on) i;
+    trail = record new.trail { events = (sym did.told.events) i; acks = (sym did.told.acks) i; kept = (sym did.told.kept) i };
     listed = record new.listed {
-      history = (sym did.listed.history) i;
-      replies = (sym did.replies) i;
-      marks = (sym did.listed.marks) i;
-      calls = (sym did.listed.calls) i;
-      sessions = (sym did.listed.sessions) i;
+      history = (sym did.told.listed.history) i;
+      replies = (sym did.told.replies) i;
+      marks = (sym did.told.listed.marks) i;
+      calls = (sym did.told.listed.calls) i;
+      sessions = (sym did.told.listed.sessions) i;
     };
-    queue = (sym did.queue) i;
-    reads = (sym did.reads) i;
-    cached = (sym did.cached) i;
+    queue = (sym did.told.queue) i;
+    reads = (sym did.told.reads) i;
+    cached = (sym did.told.cached) i;
   }
 
   abbrev before : View D
@@ -166,7 +166,7 @@ module _ {D : Type 0} (drive : Ghosts D) (fixed : Fixed D) (plan : Plan drive fi
   after_it = view_of fixed next_at now
 
   trail : is_trail_from st (e ∷ []) ≡ true
-  trail = trail_behind old.trail.events (e ∷ []) (subst IsTrail did.events did.trail)
+  trail = trail_behind old.trail.events (e ∷ []) (subst IsTrail did.told.events did.told.trail)
 
   leaves : Leaves st left (waiting.ops st)
   leaves = failed_leaves st place counts

@@ -98,30 +98,30 @@ module _ {D : Type 0} (drive : Ghosts D) (fixed : Fixed D) (plan : Plan drive fi
   g = given (view_of fixed next_at old) (seen drive fixed.first)
 
   abbrev one : Gathering
-  one = did.read.one
+  one = did.taken.read.one
 
   waited : slice_get old.listed.replies ticket ≡ Some None
-  waited = unanswered drive fixed plan planned next_at old kept tied ticket place did.request
+  waited = unanswered drive fixed plan planned next_at old kept tied ticket place did.taken.request
 
-  asked_so : st.requests ≡ map request did.request.front ++ request did.request.one ∷ map request did.request.behind
-  asked_so = asked_are drive fixed plan planned next_at old kept tied ticket place did.request
+  asked_so : st.requests ≡ map request did.taken.request.front ++ request did.taken.request.one ∷ map request did.taken.request.behind
+  asked_so = asked_are drive fixed plan planned next_at old kept tied ticket place did.taken.request
 
   wanted : list_any (wants_it ticket) st.requests ≡ true
   wanted = ap (list_any (wants_it ticket)) asked_so
-      ∙ any_mid (wants_it ticket) (map request did.request.front) (request did.request.one) (map request did.request.behind) (eq-eqb did.request.one.owner ticket did.request.owner_is)
+      ∙ any_mid (wants_it ticket) (map request did.taken.request.front) (request did.taken.request.one) (map request did.taken.request.behind) (eq-eqb did.taken.request.one.owner ticket did.taken.request.owner_is)
 
   passes : (r : Request) → (r.ticket == ticket) ≡ false → not (asks ticket place r) ≡ true
   passes r other = ap (λ b. not (b && same_place r.place place)) other
 
   queue : map request new.queue.waiting ≡ left.requests
   queue =
-      let front = map request did.request.front in
-      let behind = map request did.request.behind in
-      let r = request did.request.one in
-      ap (map request) did.queue ∙ map-append request did.request.front did.request.behind
+      let front = map request did.taken.request.front in
+      let behind = map request did.taken.request.behind in
+      let r = request did.taken.request.one in
+      ap (map request) did.taken.queue ∙ map-append request did.taken.request.front did.taken.request.behind
       ∙ sym (taken_out front r behind (subst Once asked_so (asked_once old.trail.events kept.order.orderly.trail)))
-      ∙ ap (λ t. filter (λ (x : Request). not (asks t r.place x)) (front ++ r ∷ behind)) did.request.owner_is
-      ∙ ap (λ p. filter (λ (x : Request). not (asks ticket p x)) (front ++ r ∷ behind)) did.request.place_is
+      ∙ ap (λ t. filter (λ (x : Request). not (asks t r.place x)) (front ++ r ∷ behind)) did.taken.request.owner_is
+      ∙ ap (λ p. filter (λ (x : Request). not (asks ticket p x)) (front ++ r ∷ behind)) did.taken.request.place_is
       ∙ ap (left_for ticket place) (sym asked_so)
 
   still : list_any (is_of ticket) left.requests ≡ list_any (λ (w : Waiting). w.owner == ticket) new.queue.waiting
@@ -130,8 +130,8 @@ module _ {D : Type 0} (drive : Ghosts D) (fixed : Fixed D) (plan : Plan drive fi
   -- ---- the block
 
   reading : IsReading g old.on old.listed.history planned (drive.held fixed.first) st one
-  reading = all_mid (IsReading g old.on old.listed.history planned (drive.held fixed.first) st) did.read.front one did.read.behind
-      (subst (All (IsReading g old.on old.listed.history planned (drive.held fixed.first) st)) did.read.stands.parts tied.reads.each)
+  reading = all_mid (IsReading g old.on old.listed.history planned (drive.held fixed.first) st) did.taken.read.front one did.taken.read.behind
+      (subst (All (IsReading g old.on old.listed.history planned (drive.held fixed.first) st)) did.taken.read.stands.parts tied.reads.each)
 
   block_is : (c : Cartridge) → drive.held fixed.first ≡ Some c → IsBlock (tape_on planned) place block
   block_is c told = by (drive.held old.drive) refl
@@ -139,19 +139,19 @@ module _ {D : Type 0} (drive : Ghosts D) (fixed : Fixed D) (plan : Plan drive fi
       by : (o : Option Cartridge) → drive.held old.drive ≡ o → IsBlock (tape_on planned) place block
       by None is = absurd (none-some c (sym (tied.told is) ∙ told))
       by (Some h) is = tapes_tell.found planned old.stock.layout.ops place got block h (tied.way h is)
-          (stands drive fixed plan planned next_at old kept tied ticket place did.request) (did.found h is)
+          (stands drive fixed plan planned next_at old kept tied ticket place did.taken.request) (did.found h is)
 
   -- the read has one block more
   gathers : (c : Cartridge) → drive.held fixed.first ≡ Some c
-      → IsGathering (tape_on planned) (was_met left ticket) did.next
+      → IsGathering (tape_on planned) (was_met left ticket) did.taken.next
   gathers c told =
-      subst (λ (met : Places). IsGathering (tape_on planned) met did.next) (met_now st.requests ticket place)
-      (did.filled.filled (tape_on planned) (was_met st ticket) (block_is c told)
-      (subst (λ t. IsGathering (tape_on planned) (was_met st t) one) did.read.stands.ticket_is
+      subst (λ (met : Places). IsGathering (tape_on planned) met did.taken.next) (met_now st.requests ticket place)
+      (did.taken.filled.filled (tape_on planned) (was_met st ticket) (block_is c told)
+      (subst (λ t. IsGathering (tape_on planned) (was_met st t) one) did.taken.read.stands.ticket_is
       (of_some (drive.held fixed.first) (λ c. IsGathering (tape_on planned) (was_met st one.ticket) one) c told reading.gathering)))
 
-  its : did.next.ticket ≡ ticket
-  its = did.filled.ticket ∙ did.read.stands.ticket_is
+  its : did.taken.next.ticket ≡ ticket
+  its = did.taken.filled.ticket ∙ did.taken.read.stands.ticket_is
 
   -- ---- whether another block is still to come
 
@@ -162,18 +162,18 @@ module _ {D : Type 0} (drive : Ghosts D) (fixed : Fixed D) (plan : Plan drive fi
   others : (k : ℕ) → (k == ticket) ≡ false → is_waiting left k ≡ is_waiting st k
   others k other = others_wait st ticket place None (λ r. not (asks ticket place r)) passes refl k other
 
-  old_reads : AreReading g old.on old.listed.history planned (drive.held fixed.first) old.stock.layout.ops st (did.read.front ++ one ∷ did.read.behind)
-  old_reads = subst (λ (l : List Gathering). AreReading g old.on old.listed.history planned (drive.held fixed.first) old.stock.layout.ops st l) did.read.stands.parts tied.reads
+  old_reads : AreReading g old.on old.listed.history planned (drive.held fixed.first) old.stock.layout.ops st (did.taken.read.front ++ one ∷ did.taken.read.behind)
+  old_reads = subst (λ (l : List Gathering). AreReading g old.on old.listed.history planned (drive.held fixed.first) old.stock.layout.ops st l) did.taken.read.stands.parts tied.reads
 
   keeps_block : KeepsBlock (drive.held old.drive) e old.cached new.cached
-  keeps_block = keeps_it (drive.held old.drive) ticket place got block old.cached new.cached did.found did.cached
+  keeps_block = keeps_it (drive.held old.drive) ticket place got block old.cached new.cached did.found did.taken.cached
 
   cached : All (IsKeptRightly planned old.stock.layout.ops (drive.held fixed.first)) new.cached
   cached = kept_right planned old.stock.layout.ops (drive.held old.drive) (drive.held fixed.first) place got block old.cached new.cached
-      (stands drive fixed plan planned next_at old kept tied ticket place did.request) tied.way did.found tied.told did.cached tied.cached
+      (stands drive fixed plan planned next_at old kept tied ticket place did.taken.request) tied.way did.found tied.told did.taken.cached tied.cached
 
   -- another one is
-  module _ (more : list_any (is_of ticket) left.requests ≡ true) (on : IsReadOn true ticket did.read.front did.read.behind did.next new.reads old.listed.replies new.listed.replies) where
+  module _ (more : list_any (is_of ticket) left.requests ≡ true) (on : IsReadOn true ticket did.taken.read.front did.taken.read.behind did.taken.next new.reads old.listed.replies new.listed.replies) where
     waits_on : (k : ℕ) → is_waiting st k ≡ true → is_waiting left k ≡ true
     waits_on k waits = by (k == ticket) refl
       where
@@ -181,22 +181,22 @@ module _ {D : Type 0} (drive : Ghosts D) (fixed : Fixed D) (plan : Plan drive fi
         by true same = subst (λ n. is_waiting left n ≡ true) (sym (eqb-true k ticket same)) (or_left (list_any (is_of ticket) left.requests) (list_any (syncs_it ticket) left.syncs) more)
         by false other = others k other ∙ waits
 
-    next_reads : IsReading g old.on old.listed.history planned (drive.held fixed.first) left did.next
+    next_reads : IsReading g old.on old.listed.history planned (drive.held fixed.first) left did.taken.next
     next_reads = record {
       placed = reading.placed;
-      placed_is = ap (slice_get old.listed.history) did.filled.ticket ∙ reading.placed_is;
+      placed_is = ap (slice_get old.listed.history) did.taken.filled.ticket ∙ reading.placed_is;
       call = reading.call;
       call_is = reading.call_is;
-      answers = ap (λ t. answer (standing g old.on old.listed.history t).tree reading.call) did.filled.ticket
+      answers = ap (λ t. answer (standing g old.on old.listed.history t).tree reading.call) did.taken.filled.ticket
           ∙ reading.answers
-          ∙ ap (read_answer (tape_on planned)) (sym did.filled.pieces);
-      below = subst (λ (pieces : List Piece). LieBelow (ends_in planned) pieces) (sym did.filled.pieces) reading.below;
-      gathering = if_some (drive.held fixed.first) (λ c. IsGathering (tape_on planned) (was_met left did.next.ticket) did.next)
-          (λ c told. subst (λ t. IsGathering (tape_on planned) (was_met left t) did.next) (sym its) (gathers c told));
+          ∙ ap (read_answer (tape_on planned)) (sym did.taken.filled.pieces);
+      below = subst (λ (pieces : List Piece). LieBelow (ends_in planned) pieces) (sym did.taken.filled.pieces) reading.below;
+      gathering = if_some (drive.held fixed.first) (λ c. IsGathering (tape_on planned) (was_met left did.taken.next.ticket) did.taken.next)
+          (λ c told. subst (λ t. IsGathering (tape_on planned) (was_met left t) did.taken.next) (sym its) (gathers c told));
       asked = subst (λ t. list_any (is_of t) left.requests ≡ true) (sym its) more;
     }
 
-    shows_more : Shows drive fixed plan planned next_at old new ticket place None (ends.Read got) kept tied did.step did.only did.events
+    shows_more : Shows drive fixed plan planned next_at old new ticket place None (ends.Read got) kept tied did.step did.taken.only did.taken.events
     shows_more = record {
       head = head;
       count = ap length on.1;
@@ -207,13 +207,13 @@ module _ {D : Type 0} (drive : Ghosts D) (fixed : Fixed D) (plan : Plan drive fi
       queue = queue;
       reads = subst (λ (l : List Gathering). AreReading g old.on old.listed.history planned (drive.held fixed.first) old.stock.layout.ops left l) (sym on.0)
           (reads_with g old.on old.listed.history planned (drive.held fixed.first) old.stock.layout.ops st left ticket (λ r. not (asks ticket place r)) passes refl
-          did.read.front one did.read.behind did.read.stands.ticket_is did.read.stands.others old_reads did.next did.filled.ticket next_reads);
+          did.taken.read.front one did.taken.read.behind did.taken.read.stands.ticket_is did.taken.read.stands.others old_reads did.taken.next did.taken.filled.ticket next_reads);
       keeps_block = keeps_block;
       cached = cached;
     }
 
   -- it was the last
-  module _ (gone : list_any (is_of ticket) left.requests ≡ false) (on : IsReadOn false ticket did.read.front did.read.behind did.next new.reads old.listed.replies new.listed.replies) where
+  module _ (gone : list_any (is_of ticket) left.requests ≡ false) (on : IsReadOn false ticket did.taken.read.front did.taken.read.behind did.taken.next new.reads old.listed.replies new.listed.replies) where
     abbrev gives : Answer
     gives = on.1.0
 
@@ -239,18 +239,18 @@ module _ {D : Type 0} (drive : Ghosts D) (fixed : Fixed D) (plan : Plan drive fi
         → IsAnswerAt g old.on old.listed.history (old.trail.events ++ e ∷ []) k call reply
     came can k p call reply at is was there =
         let c = one_came old.listed.replies ticket (the_replies.Answer gives) k reply waited was (sym (ap (λ l. slice_get l k) told_are) ∙ there) in
-        let same : k ≡ one.ticket = c.0 ∙ sym did.read.stands.ticket_is in
+        let same : k ≡ one.ticket = c.0 ∙ sym did.taken.read.stands.ticket_is in
         let placed : reading.placed ≡ p = same_Some reading.placed p (sym reading.placed_is ∙ ap (slice_get old.listed.history) (sym same) ∙ at) in
         let calls : reading.call ≡ call = same_Some reading.call call (sym reading.call_is ∙ ap (call_at g.calls) placed ∙ is) in
-        let read : gives ≡ read_answer (tape_on planned) did.next.pieces =
+        let read : gives ≡ read_answer (tape_on planned) did.taken.next.pieces =
         on.1.2.1 (tape_on planned) (was_met left ticket) (gathers can.held can.told) (λ q h. all_met left.requests ticket q gone) in
-        let tree : answer (standing g old.on old.listed.history k).tree call ≡ read_answer (tape_on planned) did.next.pieces =
+        let tree : answer (standing g old.on old.listed.history k).tree call ≡ read_answer (tape_on planned) did.taken.next.pieces =
         ap (λ n. answer (standing g old.on old.listed.history n).tree call) same
         ∙ ap (answer (standing g old.on old.listed.history one.ticket).tree) (sym calls) ∙ reading.answers
-        ∙ ap (read_answer (tape_on planned)) (sym did.filled.pieces) in
+        ∙ ap (read_answer (tape_on planned)) (sym did.taken.filled.pieces) in
         inl (sym c.1 ∙ ap the_replies.Answer (read ∙ sym tree))
 
-    shows_last : Shows drive fixed plan planned next_at old new ticket place None (ends.Read got) kept tied did.step did.only did.events
+    shows_last : Shows drive fixed plan planned next_at old new ticket place None (ends.Read got) kept tied did.step did.taken.only did.taken.events
     shows_last = record {
       head = head;
       count = ap length told_are ∙ told_count old.listed.replies ticket (the_replies.Answer gives);
@@ -263,18 +263,18 @@ module _ {D : Type 0} (drive : Ghosts D) (fixed : Fixed D) (plan : Plan drive fi
       queue = queue;
       reads = subst (λ (l : List Gathering). AreReading g old.on old.listed.history planned (drive.held fixed.first) old.stock.layout.ops left l) (sym on.0)
           (reads_without g old.on old.listed.history planned (drive.held fixed.first) old.stock.layout.ops st left ticket (λ r. not (asks ticket place r)) passes refl
-          did.read.front one did.read.behind did.read.stands.ticket_is did.read.stands.others old_reads gone);
+          did.taken.read.front one did.taken.read.behind did.taken.read.stands.ticket_is did.taken.read.stands.others old_reads gone);
       keeps_block = keeps_block;
       cached = cached;
     }
 
   by_more : (b : Bool) → list_any (λ (w : Waiting). w.owner == ticket) new.queue.waiting ≡ b
-      → IsReadOn b ticket did.read.front did.read.behind did.next new.reads old.listed.replies new.listed.replies
-      → Shows drive fixed plan planned next_at old new ticket place None (ends.Read got) kept tied did.step did.only did.events
+      → IsReadOn b ticket did.taken.read.front did.taken.read.behind did.taken.next new.reads old.listed.replies new.listed.replies
+      → Shows drive fixed plan planned next_at old new ticket place None (ends.Read got) kept tied did.step did.taken.only did.taken.events
   by_more true is on = shows_more (still ∙ is) on
   by_more false is on = shows_last (still ∙ is) on
 
   -- a step that read a block shows all that is asked, and leaves the volume tied
   pub reads : Stepped drive fixed (view_of fixed next_at old) (view_of fixed next_at new) (e ∷ []) × IsTied drive fixed planned new
-  reads = serves drive fixed plan planned next_at old new ticket place None (ends.Read got) kept tied did.step did.only did.events
-      (by_more (list_any (λ (w : Waiting). w.owner == ticket) new.queue.waiting) refl did.reads)
+  reads = serves drive fixed plan planned next_at old new ticket place None (ends.Read got) kept tied did.step did.taken.only did.taken.events
+      (by_more (list_any (λ (w : Waiting). w.owner == ticket) new.queue.waiting) refl did.taken.reads)

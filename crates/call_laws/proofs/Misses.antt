@@ -106,11 +106,11 @@ module _ {D : Type 0} (drive : Ghosts D) (fixed : Fixed D) (plan : Plan drive fi
   fault = the_replies.Fault counts
 
   waited : slice_get old.listed.replies ticket ≡ Some None
-  waited = unanswered drive fixed plan planned next_at old kept tied ticket place did.request
+  waited = unanswered drive fixed plan planned next_at old kept tied ticket place did.missed.request
 
   wanted : list_any (wants_it ticket) st.requests ≡ true
-  wanted = ap (list_any (wants_it ticket)) (asked_are drive fixed plan planned next_at old kept tied ticket place did.request)
-      ∙ any_mid (wants_it ticket) (map request did.request.front) (request did.request.one) (map request did.request.behind) (eq-eqb did.request.one.owner ticket did.request.owner_is)
+  wanted = ap (list_any (wants_it ticket)) (asked_are drive fixed plan planned next_at old kept tied ticket place did.missed.request)
+      ∙ any_mid (wants_it ticket) (map request did.missed.request.front) (request did.missed.request.one) (map request did.missed.request.behind) (eq-eqb did.missed.request.one.owner ticket did.missed.request.owner_is)
 
   passes : (r : Request) → (r.ticket == ticket) ≡ false → not (r.ticket == ticket) ≡ true
   passes r other = ap not other
@@ -132,7 +132,7 @@ module _ {D : Type 0} (drive : Ghosts D) (fixed : Fixed D) (plan : Plan drive fi
       → slice_get new.listed.replies k ≡ Some (Some reply)
       → IsAnswerAt (given (view_of fixed next_at old) (seen drive fixed.first)) old.on old.listed.history (old.trail.events ++ e ∷ []) k call reply
   came k p call reply was there =
-      let c = one_came old.listed.replies ticket fault k reply waited was (sym (ap (λ l. slice_get l k) did.replies) ∙ there) in
+      let c = one_came old.listed.replies ticket fault k reply waited was (sym (ap (λ l. slice_get l k) did.missed.replies) ∙ there) in
       let owned : owned_by (of_call ticket) (old.trail.events ++ e ∷ []) ≡ owned_by (of_call ticket) old.trail.events ++ counts ∷ [] =
       owned_more (of_call ticket) old.trail.events (e ∷ []) ∙ ap (λ l. owned_by (of_call ticket) old.trail.events ++ l) (sym (owned_one st ticket place counts)) in
       inr (
@@ -142,30 +142,30 @@ module _ {D : Type 0} (drive : Ghosts D) (fixed : Fixed D) (plan : Plan drive fi
         sym c.1,
       )
 
-  shows : Shows drive fixed plan planned next_at old new ticket place (Some counts) (ends.Failed counts) kept tied did.step did.only did.events
+  shows : Shows drive fixed plan planned next_at old new ticket place (Some counts) (ends.Failed counts) kept tied did.step did.missed.only did.missed.events
   shows = record {
     head = tt;
-    count = ap length did.replies ∙ told_count old.listed.replies ticket fault;
-    keeps = λ k reply is. ap (λ l. slice_get l k) did.replies
+    count = ap length did.missed.replies ∙ told_count old.listed.replies ticket fault;
+    keeps = λ k reply is. ap (λ l. slice_get l k) did.missed.replies
         ∙ one_kept st old.listed.replies ticket fault waited k reply is;
     brought = λ k reply was is. one_brought st (e ∷ []) old.listed.replies ticket fault kept.order.orderly.waiting brings k reply was
-        (sym (ap (λ l. slice_get l k) did.replies) ∙ is);
+        (sym (ap (λ l. slice_get l k) did.missed.replies) ∙ is);
     came = λ can k p call reply at is was there. came k p call reply was there;
     rises = one_of (λ (t : Twin). IsRise (drive.faults old.drive) (drive.faults new.drive) t.before t.after) counts
         (rise_of (drive.faults old.drive) (drive.faults new.drive) counts did.step.made.faults);
-    queue = ap (map request) did.queue ∙ left_are ticket old.queue.waiting
+    queue = ap (map request) did.missed.queue ∙ left_are ticket old.queue.waiting
         ∙ ap (filter (λ (r : Request). not (r.ticket == ticket))) tied.queue;
     reads = subst (λ (l : List Gathering). AreReading (given (view_of fixed next_at old) (seen drive fixed.first)) old.on old.listed.history planned (drive.held fixed.first)
-        old.stock.layout.ops (after st e) l) (sym did.reads)
+        old.stock.layout.ops (after st e) l) (sym did.missed.reads)
         (reads_without (given (view_of fixed next_at old) (seen drive fixed.first)) old.on old.listed.history planned (drive.held fixed.first) old.stock.layout.ops st (after st e)
-        ticket (λ r. not (r.ticket == ticket)) passes refl did.read.front did.read.one did.read.behind did.read.stands.ticket_is did.read.stands.others
+        ticket (λ r. not (r.ticket == ticket)) passes refl did.missed.read.front did.missed.read.one did.missed.read.behind did.missed.read.stands.ticket_is did.missed.read.stands.others
         (subst (λ (l : List Gathering). AreReading (given (view_of fixed next_at old) (seen drive fixed.first)) old.on old.listed.history planned (drive.held fixed.first)
-        old.stock.layout.ops st l) did.read.stands.parts tied.reads)
+        old.stock.layout.ops st l) did.missed.read.stands.parts tied.reads)
         (all_gone (is_of ticket) st.requests));
-    keeps_block = did.cached;
-    cached = cached_still planned old.stock.layout.ops (drive.held fixed.first) old.cached new.cached did.cached tied.cached;
+    keeps_block = did.missed.cached;
+    cached = cached_still planned old.stock.layout.ops (drive.held fixed.first) old.cached new.cached did.missed.cached tied.cached;
   }
 
   -- a step for a request that failed shows all that is asked, and leaves the volume tied
   pub misses : Stepped drive fixed (view_of fixed next_at old) (view_of fixed next_at new) (e ∷ []) × IsTied drive fixed planned new
-  misses = serves drive fixed plan planned next_at old new ticket place (Some counts) (ends.Failed counts) kept tied did.step did.only did.events shows
+  misses = serves drive fixed plan planned next_at old new ticket place (Some counts) (ends.Failed counts) kept tied did.step did.missed.only did.missed.events shows

@@ -1,6 +1,6 @@
 -- What a step of the head makes of the parts of a volume.
-use Rattle.std.specs.Prelude.{ℕ, ◌≡◌, ◌≢◌, ◌⊎◌, ◌&&◌, ◌==◌, not, Bool, true, false, cond, List, [], ◌∷◌, ◌++◌, filter, fold}
-use Rattle.std.specs.Prelude.{length, map, Option, Some, None, slice_get, slice_set}
+use Rattle.std.specs.Prelude.{ℕ, ◌≡◌, ◌≢◌, ◌⊎◌, ◌&&◌, ◌==◌, not, Bool, true, false, cond, List, [], ◌∷◌, ◌++◌, filter}
+use Rattle.std.specs.Prelude.{length, map, Option, Some, None, slice_set}
 use Rattle.std.specs.List.{list_any}
 use Rattle.tape_types.specs.declared.cartridges.Cartridge.{Cartridge}
 use Rattle.tape_types.specs.declared.cartridges.Part.TheVariants.{Dp}
@@ -28,8 +28,7 @@ use Rattle.head_queue.specs.Waiting.{Waiting}
 use Rattle.tape_layout.specs.declared.ops.Op.{Op}
 use Rattle.tape_layout.specs.Ops.{is_flush, place_of}
 use Rattle.crash_laws.specs.Changes.{IsWell}
-use Rattle.held_volume.specs.Stocks.{Stocked}
-use Rattle.event_journal.specs.Trails.{Journaled, due_ticket, first_waiter, kept_for_drain, state}
+use Rattle.event_journal.specs.Trails.{due_ticket, first_waiter, kept_for_drain, state}
 use Rattle.event_journal.specs.declared.trails.Waiter.{Waiter}
 use Rattle.event_journal.specs.declared.trails.Waiter.TheVariants as waiters
 use Rattle.waiting_reads.specs.Gathering.{Gathering, IsGathering, read_answer}
@@ -71,12 +70,9 @@ abbrev pub on_done : Op → ℕ → Option ℕ → Option ℕ
 on_done op here (Some first) = Some first
 on_done op here None = cond (settles_dp op) (Some here) None
 
--- The first op was done, and then each sync is answered that is due.
-pub record DoesOp {D : Type 0} (drive : Ghosts D) (op : Op) (end : StepDone) (tickets : List ℕ) (old new : Parts D)
-    : Type 0 where
+-- An op that was done is taken out, and then each sync is answered that is due, at this number of commands.
+pub record IsOpDone {D : Type 0} (commands : ℕ) (op : Op) (tickets : List ℕ) (old new : Parts D) : Type 0 where
   pub first : old.stock.layout.ops ≡ op ∷ new.stock.layout.ops
-  pub step : IsOpStep drive op end old.drive new.drive
-  pub well : IsWell end
   pub stock : new.stock ≡ record old.stock {
     layout = record old.stock.layout {
       ops = new.stock.layout.ops;
@@ -84,11 +80,10 @@ pub record DoesOp {D : Type 0} (drive : Ghosts D) (op : Op) (end : StepDone) (ti
     };
   }
   pub on : new.on ≡ on_done op (length old.listed.history) old.on
-  pub events : new.trail.events
-      ≡ old.trail.events ++ the_events.Worked (place_of op) None ∷ synced_events tickets
+  pub events : new.trail.events ≡ old.trail.events ++ the_events.Worked (place_of op) None ∷ synced_events tickets
   pub trail : IsTrail new.trail.events
   pub none_due : due_ticket (state new.trail) ≡ None
-  pub acks : new.trail.acks ≡ old.trail.acks ++ acks_at (drive.commands new.drive) tickets
+  pub acks : new.trail.acks ≡ old.trail.acks ++ acks_at commands tickets
   pub kept : new.trail.kept ≡ old.trail.kept
   pub listed : KeepsListed old new
   pub replies : new.listed.replies ≡ all_synced tickets old.listed.replies
@@ -96,17 +91,21 @@ pub record DoesOp {D : Type 0} (drive : Ghosts D) (op : Op) (end : StepDone) (ti
   pub reads : new.reads ≡ old.reads
   pub cached : new.cached ≡ old.cached
 
+-- The first op was done, and then each sync is answered that is due.
+pub record DoesOp {D : Type 0} (drive : Ghosts D) (op : Op) (end : StepDone) (tickets : List ℕ) (old new : Parts D)
+    : Type 0 where
+  pub step : IsOpStep drive op end old.drive new.drive
+  pub well : IsWell end
+  pub done : IsOpDone (drive.commands new.drive) op tickets old new
+
 -- who has waited longest is told of a fault, where it is a sync
 abbrev pub told_fault : Option Waiter → Twin → List (Option Reply) → List (Option Reply)
 told_fault (Some (waiters.Sync ticket)) counts told = replied ticket (the_replies.Fault counts) told
 told_fault (Some (waiters.Drain who)) counts told = told
 told_fault None counts told = told
 
--- The first op failed, and stays.
-pub record FailsOp {D : Type 0} (drive : Ghosts D) (op : Op) (later : List Op) (counts : Twin) (old new : Parts D)
-    : Type 0 where
-  pub first : old.stock.layout.ops ≡ op ∷ later
-  pub step : IsOpStep drive op (ends.Failed counts) old.drive new.drive
+-- An op that failed stays, and who has waited longest is told, or its session once it asks.
+pub record IsFaultTold {D : Type 0} (op : Op) (counts : Twin) (old new : Parts D) : Type 0 where
   pub stock : new.stock ≡ old.stock
   pub on : new.on ≡ old.on
   pub events : new.trail.events ≡ old.trail.events ++ the_events.Worked (place_of op) (Some counts) ∷ []
@@ -118,6 +117,13 @@ pub record FailsOp {D : Type 0} (drive : Ghosts D) (op : Op) (later : List Op) (
   pub queue : new.queue ≡ old.queue
   pub reads : new.reads ≡ old.reads
   pub cached : new.cached ≡ old.cached
+
+-- The first op failed, and stays.
+pub record FailsOp {D : Type 0} (drive : Ghosts D) (op : Op) (later : List Op) (counts : Twin) (old new : Parts D)
+    : Type 0 where
+  pub first : old.stock.layout.ops ≡ op ∷ later
+  pub step : IsOpStep drive op (ends.Failed counts) old.drive new.drive
+  pub told : IsFaultTold op counts old new
 
 -- ---- reads
 
@@ -165,11 +171,9 @@ abbrev pub IsKeptAfter : Got → Place → List ℕ → (old new : List Kept) �
 IsKeptAfter gots.Block place block old new = (new ≡ old) ⊎ (new ≡ with_block place block old)
 IsKeptAfter _ place block old new = new ≡ old
 
--- A block was read for a request.
-pub record ReadsBlock {D : Type 0} (drive : Ghosts D) (ticket : ℕ) (place : Place) (got : Got) (block : List ℕ)
-    (old new : Parts D) : Type 0 where
-  pub step : IsReadStep drive place (ends.Read got) old.drive new.drive
-  pub found : (c : Cartridge) → drive.held old.drive ≡ Some c → IsFoundAt place (ends.Read got) block c
+-- What was read for a request is taken: the request is gone, and its read has one block more or is answered.
+pub record IsBlockTaken {D : Type 0} (ticket : ℕ) (place : Place) (got : Got) (block : List ℕ) (old new : Parts D)
+    : Type 0 where
   pub only : ReadsOnly old new
   pub events : new.trail.events ≡ old.trail.events ++ the_events.Served ticket place None ∷ []
   pub request : IsOneRequest old.queue.waiting ticket place
@@ -181,10 +185,16 @@ pub record ReadsBlock {D : Type 0} (drive : Ghosts D) (ticket : ℕ) (place : Pl
       new.reads old.listed.replies new.listed.replies
   pub cached : IsKeptAfter got place block old.cached new.cached
 
--- The step for a request failed: its read is told, and wants nothing more.
-pub record FailsRead {D : Type 0} (drive : Ghosts D) (ticket : ℕ) (place : Place) (counts : Twin) (old new : Parts D)
+-- A block was read for a request.
+pub record ReadsBlock {D : Type 0} (drive : Ghosts D) (ticket : ℕ) (place : Place) (got : Got) (block : List ℕ)
+    (old new : Parts D) : Type 0 where
+  pub step : IsReadStep drive place (ends.Read got) old.drive new.drive
+  pub found : (c : Cartridge) → drive.held old.drive ≡ Some c → IsFoundAt place (ends.Read got) block c
+  pub taken : IsBlockTaken ticket place got block old new
+
+-- The read of a request that failed is told, and all its requests are gone.
+pub record IsRequestMissed {D : Type 0} (ticket : ℕ) (place : Place) (counts : Twin) (old new : Parts D)
     : Type 0 where
-  pub step : IsReadStep drive place (ends.Failed counts) old.drive new.drive
   pub only : ReadsOnly old new
   pub events : new.trail.events ≡ old.trail.events ++ the_events.Served ticket place (Some counts) ∷ []
   pub request : IsOneRequest old.queue.waiting ticket place
@@ -193,6 +203,12 @@ pub record FailsRead {D : Type 0} (drive : Ghosts D) (ticket : ℕ) (place : Pla
   pub reads : new.reads ≡ read.front ++ read.behind
   pub replies : new.listed.replies ≡ replied ticket (the_replies.Fault counts) old.listed.replies
   pub cached : new.cached ≡ old.cached
+
+-- The step for a request failed: its read is told, and wants nothing more.
+pub record FailsRead {D : Type 0} (drive : Ghosts D) (ticket : ℕ) (place : Place) (counts : Twin) (old new : Parts D)
+    : Type 0 where
+  pub step : IsReadStep drive place (ends.Failed counts) old.drive new.drive
+  pub missed : IsRequestMissed ticket place counts old new
 
 -- ---- what a step shows
 

@@ -14,8 +14,7 @@ use Rattle.head_core.specs.declared.work.StepDone.{StepDone}
 use Rattle.head_core.specs.declared.work.StepDone.TheVariants as ends
 use Rattle.event_laws.specs.Trail.{after_all}
 use Rattle.event_laws.specs.Waiting.{State, ops}
-use Rattle.tape_layout.specs.declared.ops.Op.{Op}
-use Rattle.serving_promise.specs.Marks.{draining, phase, waits}
+use Rattle.serving_promise.specs.Marks.{phase, waits}
 use Rattle.serving_promise.specs.Served.{Fixed, View, headed}
 use Rattle.serving_promise.specs.Steps.{is_step}
 use Rattle.serving_promise.specs.Submits.{Adds, acks_for}
@@ -64,7 +63,7 @@ steps_act drive old new _ headed_are (does op end tickets s) =
       op,
       map headed new.stock.layout.ops,
       end,
-      sym headed_are ∙ ap (map headed) s.first,
+      sym headed_are ∙ ap (map headed) s.done.first,
       refl,
       no_failure end s.well,
       s.step,

@@ -1,5 +1,5 @@
 -- Ops that were done, or failed.
-use Rattle.std.specs.Prelude.{ℕ, ◌≡◌, ◌==◌, ◌&&◌, Bool, true, false, cond, drop, List, [], ◌∷◌, ◌++◌, filter, length, Option, Some, None, slice_get}
+use Rattle.std.specs.Prelude.{ℕ, ◌≡◌, ◌==◌, Bool, true, false, cond, drop, List, [], ◌∷◌, ◌++◌, length, Option, Some, None, slice_get}
 use Rattle.std.specs.List.{list_any}
 use Rattle.std.proofs.Common.{refl, sym, ap, subst, ◌∙◌}
 use Rattle.std.proofs.lemmas.List.{append_assoc}
@@ -7,7 +7,6 @@ use Rattle.tape_types.specs.declared.cartridges.Place.{Place}
 use Rattle.session_script.specs.declared.logs.Ack.{Ack}
 use Rattle.session_script.specs.declared.logs.Event.{Event}
 use Rattle.session_script.specs.declared.logs.Event.TheVariants.{Worked}
-use Rattle.session_script.specs.declared.logs.Reply.{Reply}
 use Rattle.event_laws.specs.Waiting as waiting
 use Rattle.event_laws.specs.Waiting.{State, Waiter, waiting_op}
 use Rattle.event_laws.specs.Trail.{after, after_all, after_op, without_first_op}
@@ -72,31 +71,33 @@ finishes commands op later tickets old mid new first t a =
     ap (λ (st : Stocked). st.layout.ops) s.stock ∙ ap (λ (st : Stocked). st.layout.ops) t.stock in
     record {
       drive = s.drive ∙ t.drive;
-      first = first ∙ ap (λ (ops : List Op). op ∷ ops) (sym (ops ∙ ap (λ (ops : List Op). drop 1 ops) first));
-      stock = s.stock ∙ t.stock ∙ ap (λ (ops : List Op). record old.stock {
-        layout = record old.stock.layout {
-          ops = ops;
-          ip_on = cond (settles_dp op) true old.stock.layout.ip_on;
-        };
-      }) (sym ops);
-      on = s.on ∙ t.on ∙ on_as_done op (length old.listed.history) old.on;
-      events = s.events ∙ ap (λ (es : List Event). es ++ synced_events tickets) t.events
-          ∙ append_assoc old.trail.events (Worked (place_of op) None ∷ []) (synced_events tickets);
-      trail = a.trail;
-      none_due = a.none_due;
-      acks = s.acks ∙ ap (λ (told : List Ack). told ++ acks_at commands tickets) t.acks;
-      kept = s.kept ∙ t.kept;
-      listed = record {
-        history = s.listed.history ∙ ap (λ (l : Listed). l.history) t.listed;
-        marks = s.listed.marks ∙ ap (λ (l : Listed). l.marks) t.listed;
-        calls = s.listed.calls ∙ ap (λ (l : Listed). l.calls) t.listed;
-        sessions = s.listed.sessions ∙ ap (λ (l : Listed). l.sessions) t.listed;
-      };
-      replies = s.replies ∙ ap (λ (l : Listed). all_synced tickets l.replies) t.listed;
-      queue = s.queue ∙ t.queue;
       answered = s.answered ∙ t.answered;
-      reads = s.reads ∙ t.reads;
-      cached = s.cached ∙ t.cached;
+      done = record {
+        first = first ∙ ap (λ (ops : List Op). op ∷ ops) (sym (ops ∙ ap (λ (ops : List Op). drop 1 ops) first));
+        stock = s.stock ∙ t.stock ∙ ap (λ (ops : List Op). record old.stock {
+          layout = record old.stock.layout {
+            ops = ops;
+            ip_on = cond (settles_dp op) true old.stock.layout.ip_on;
+          };
+        }) (sym ops);
+        on = s.on ∙ t.on ∙ on_as_done op (length old.listed.history) old.on;
+        events = s.events ∙ ap (λ (es : List Event). es ++ synced_events tickets) t.events
+            ∙ append_assoc old.trail.events (Worked (place_of op) None ∷ []) (synced_events tickets);
+        trail = a.trail;
+        none_due = a.none_due;
+        acks = s.acks ∙ ap (λ (told : List Ack). told ++ acks_at commands tickets) t.acks;
+        kept = s.kept ∙ t.kept;
+        listed = record {
+          history = s.listed.history ∙ ap (λ (l : Listed). l.history) t.listed;
+          marks = s.listed.marks ∙ ap (λ (l : Listed). l.marks) t.listed;
+          calls = s.listed.calls ∙ ap (λ (l : Listed). l.calls) t.listed;
+          sessions = s.listed.sessions ∙ ap (λ (l : Listed). l.sessions) t.listed;
+        };
+        replies = s.replies ∙ ap (λ (l : Listed). all_synced tickets l.replies) t.listed;
+        queue = s.queue ∙ t.queue;
+        reads = s.reads ∙ t.reads;
+        cached = s.cached ∙ t.cached;
+      };
     }
 
 abbrev head_or : Op → List Op → Op

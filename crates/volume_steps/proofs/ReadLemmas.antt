@@ -1,18 +1,17 @@
 -- Blocks that were read, or not.
-use Rattle.std.specs.Prelude.{ℕ, ◌≡◌, ◌==◌, ◌||◌, not, Bool, true, false, List, [], ◌∷◌, ◌++◌, filter, Option, Some, None}
+use Rattle.std.specs.Prelude.{ℕ, ◌≡◌, ◌==◌, ◌||◌, not, Bool, true, false, List, [], ◌∷◌, ◌++◌, filter, Some, None}
 use Rattle.std.specs.List.{list_any}
 use Rattle.std.proofs.Common.{refl, sym, ap, subst, ◌∙◌}
 use Rattle.tape_types.specs.declared.cartridges.Place.{Place}
 use Rattle.tape_types.specs.declared.cartridges.Twin.{Twin}
 use Rattle.plain_tree.specs.declared.calls.Answer.{Answer}
 use Rattle.session_script.specs.declared.logs.Event.TheVariants.{Served}
-use Rattle.session_script.specs.declared.logs.Reply.{Reply}
 use Rattle.session_script.specs.declared.logs.Reply.TheVariants as the_replies
 use Rattle.head_queue.specs.Waiting.{Waiting}
 use Rattle.waiting_reads.specs.Gathering.{Gathering}
-use Rattle.waiting_reads.specs.Waiting.{IsFilledOne, IsFinished, IsForgotten, IsTakenOut, StandsAt, has_ticket}
+use Rattle.waiting_reads.specs.Waiting.{IsFilledOne, IsFinished, IsForgotten, has_ticket}
 use Rattle.state_laws.specs.Parts.{Parts}
-use Rattle.state_laws.specs.Stepping.{IsKeptAfter, IsOneRead, IsOneRequest, IsReadAnswer, IsReadOn, KeepsListed, ReadsOnly, replied}
+use Rattle.state_laws.specs.Stepping.{IsKeptAfter, IsOneRequest, IsReadAnswer, ReadsOnly, replied}
 use Rattle.tape_drive.specs.declared.drive.Got.{Got}
 use Rattle.volume_steps.specs.Moves.{MissesBlock, TakesBlock}
 use Rattle.volume_steps.proofs.SyncLemmas.{same_number}
@@ -80,16 +79,18 @@ pub waits_on : {D : Type 0} (ticket : ℕ) (place : Place) (got : Got) (block : 
     → list_any (λ (w : Waiting). w.owner == ticket) new.queue.waiting ≡ true → TakesBlock ticket place got block old new
 waits_on ticket place got block old new t filled told answered more = record {
   drive = t.drive;
-  only = t.only;
-  events = t.events;
-  request = t.request;
-  queue = t.queue;
-  read = record { front = filled.front; one = filled.one; behind = filled.behind; stands = filled.stood };
-  next = filled.next;
-  filled = filled.filled;
   answered = rw more answered;
-  reads = rw more (filled.new_is, told);
-  cached = t.cached;
+  taken = record {
+    only = t.only;
+    events = t.events;
+    request = t.request;
+    queue = t.queue;
+    read = record { front = filled.front; one = filled.one; behind = filled.behind; stands = filled.stood };
+    next = filled.next;
+    filled = filled.filled;
+    reads = rw more (filled.new_is, told);
+    cached = t.cached;
+  };
 }
 
 -- a read that got its last block is answered
@@ -109,16 +110,18 @@ is_answered ticket place got block gives mid old new t filled finished told answ
     ∙ ap (λ (behind : List Gathering). filled.front ++ behind) same.behinds in
     record {
       drive = t.drive;
-      only = t.only;
-      events = t.events;
-      request = t.request;
-      queue = t.queue;
-      read = record { front = filled.front; one = filled.one; behind = filled.behind; stands = filled.stood };
-      next = filled.next;
-      filled = filled.filled;
       answered = rw none (gives, answered, told);
-      reads = rw none (left, (gives, told, subst (λ (r : Gathering). IsReadAnswer r gives) same.ones (finished.no_sync, finished.answered)));
-      cached = t.cached;
+      taken = record {
+        only = t.only;
+        events = t.events;
+        request = t.request;
+        queue = t.queue;
+        read = record { front = filled.front; one = filled.one; behind = filled.behind; stands = filled.stood };
+        next = filled.next;
+        filled = filled.filled;
+        reads = rw none (left, (gives, told, subst (λ (r : Gathering). IsReadAnswer r gives) same.ones (finished.no_sync, finished.answered)));
+        cached = t.cached;
+      };
     }
 
 -- a request that failed is told to its read, which waits no more
@@ -133,13 +136,15 @@ missed ticket place counts old new drive only events request queue forgotten ans
     let out = forgotten.taken in
     record {
       drive = drive;
-      only = only;
-      events = events;
-      request = request;
-      queue = queue;
-      read = record { front = out.front; one = forgotten.one; behind = out.behind; stands = out.stood };
       answered = answered;
-      reads = out.new_is;
-      replies = told;
-      cached = cached;
+      missed = record {
+        only = only;
+        events = events;
+        request = request;
+        queue = queue;
+        read = record { front = out.front; one = forgotten.one; behind = out.behind; stands = out.stood };
+        reads = out.new_is;
+        replies = told;
+        cached = cached;
+      };
     }

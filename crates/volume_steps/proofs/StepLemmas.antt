@@ -42,26 +42,28 @@ module _ {D : Type 0} (drive : Ghosts D) where
       → IsOpStep drive op end old.drive d → IsWell end → FinishesOp (drive.commands d) op tickets (with_head d block old) new
       → DoesOp drive op end tickets old new
   op_done op end tickets old new d block step well f = record {
-    first = f.first;
     step = subst (λ (now : D). IsOpStep drive op end old.drive now) (sym f.drive) step;
     well = well;
-    stock = f.stock;
-    on = f.on;
-    events = f.events;
-    trail = f.trail;
-    none_due = f.none_due;
-    acks = f.acks ∙ ap (λ (now : D). old.trail.acks ++ acks_at (drive.commands now) tickets) (sym f.drive);
-    kept = f.kept;
-    listed = record {
-      history = f.listed.history;
-      marks = f.listed.marks;
-      calls = f.listed.calls;
-      sessions = f.listed.sessions;
+    done = record {
+      first = f.done.first;
+      stock = f.done.stock;
+      on = f.done.on;
+      events = f.done.events;
+      trail = f.done.trail;
+      none_due = f.done.none_due;
+      acks = f.done.acks ∙ ap (λ (now : D). old.trail.acks ++ acks_at (drive.commands now) tickets) (sym f.drive);
+      kept = f.done.kept;
+      listed = record {
+        history = f.done.listed.history;
+        marks = f.done.listed.marks;
+        calls = f.done.listed.calls;
+        sessions = f.done.listed.sessions;
+      };
+      replies = f.done.replies;
+      queue = f.done.queue;
+      reads = f.done.reads;
+      cached = f.done.cached;
     };
-    replies = f.replies;
-    queue = f.queue;
-    reads = f.reads;
-    cached = f.cached;
   }
 
   -- an op that the head did, with what was made of it, is a step
@@ -72,7 +74,7 @@ module _ {D : Type 0} (drive : Ghosts D) where
     _,
     record {
       steps = Steps.does op end tickets (op_done op end tickets old new d block step well f);
-      answers = synced_keep tickets old new f.answered f.replies;
+      answers = synced_keep tickets old new f.answered f.done.replies;
     },
   )
 
@@ -82,22 +84,24 @@ module _ {D : Type 0} (drive : Ghosts D) where
   op_failed op later counts old new d block first step f = record {
     first = first;
     step = subst (λ (now : D). IsOpStep drive op (ends.Failed counts) old.drive now) (sym f.drive) step;
-    stock = f.stock;
-    on = f.on;
-    events = f.events;
-    trail = f.trail;
-    acks = f.acks;
-    kept = f.kept;
-    listed = record {
-      history = f.listed.history;
-      marks = f.listed.marks;
-      calls = f.listed.calls;
-      sessions = f.listed.sessions;
+    told = record {
+      stock = f.told.stock;
+      on = f.told.on;
+      events = f.told.events;
+      trail = f.told.trail;
+      acks = f.told.acks;
+      kept = f.told.kept;
+      listed = record {
+        history = f.told.listed.history;
+        marks = f.told.listed.marks;
+        calls = f.told.listed.calls;
+        sessions = f.told.listed.sessions;
+      };
+      replies = f.told.replies;
+      queue = f.told.queue;
+      reads = f.told.reads;
+      cached = f.told.cached;
     };
-    replies = f.replies;
-    queue = f.queue;
-    reads = f.reads;
-    cached = f.cached;
   }
 
   -- an op that failed, with what was made of it, is a step
@@ -108,7 +112,7 @@ module _ {D : Type 0} (drive : Ghosts D) where
     _,
     record {
       steps = Steps.fails op later counts (op_failed op later counts old new d block first step f);
-      answers = fault_keeps (first_waiter (state old.trail)) counts old new f.answered f.replies;
+      answers = fault_keeps (first_waiter (state old.trail)) counts old new f.answered f.told.replies;
     },
   )
 
@@ -135,15 +139,17 @@ module _ {D : Type 0} (drive : Ghosts D) where
   block_read ticket place got block old new d step found t = record {
     step = subst (λ (now : D). IsReadStep drive place (ends.Read got) old.drive now) (sym t.drive) step;
     found = found;
-    only = only_reads old new d block t.only;
-    events = t.events;
-    request = t.request;
-    queue = t.queue;
-    read = t.read;
-    next = t.next;
-    filled = t.filled;
-    reads = t.reads;
-    cached = t.cached;
+    taken = record {
+      only = only_reads old new d block t.taken.only;
+      events = t.taken.events;
+      request = t.taken.request;
+      queue = t.taken.queue;
+      read = t.taken.read;
+      next = t.taken.next;
+      filled = t.taken.filled;
+      reads = t.taken.reads;
+      cached = t.taken.cached;
+    };
   }
 
   answer_kept : (waits : Bool) (ticket : ℕ) (old new : Parts D) (d : D) (block : List ℕ)
@@ -161,7 +167,7 @@ module _ {D : Type 0} (drive : Ghosts D) where
     _,
     record {
       steps = Steps.reads ticket place got block (block_read ticket place got block old new d step found t);
-      answers = read_keeps ticket (list_any (λ (w : Waiting). w.owner == ticket) new.queue.waiting) t.read.front t.read.behind t.next old new right none (answer_kept (list_any (λ (w : Waiting). w.owner == ticket) new.queue.waiting) ticket old new d block t.answered) t.reads;
+      answers = read_keeps ticket (list_any (λ (w : Waiting). w.owner == ticket) new.queue.waiting) t.taken.read.front t.taken.read.behind t.taken.next old new right none (answer_kept (list_any (λ (w : Waiting). w.owner == ticket) new.queue.waiting) ticket old new d block t.answered) t.taken.reads;
     },
   )
 
@@ -170,14 +176,16 @@ module _ {D : Type 0} (drive : Ghosts D) where
       → FailsRead drive ticket place counts old new
   read_failed ticket place counts old new d block step m = record {
     step = subst (λ (now : D). IsReadStep drive place (ends.Failed counts) old.drive now) (sym m.drive) step;
-    only = only_reads old new d block m.only;
-    events = m.events;
-    request = m.request;
-    queue = m.queue;
-    read = m.read;
-    reads = m.reads;
-    replies = m.replies;
-    cached = m.cached;
+    missed = record {
+      only = only_reads old new d block m.missed.only;
+      events = m.missed.events;
+      request = m.missed.request;
+      queue = m.missed.queue;
+      read = m.missed.read;
+      reads = m.missed.reads;
+      replies = m.missed.replies;
+      cached = m.missed.cached;
+    };
   }
 
   -- a read that failed, with what was made of it, is a step
@@ -188,6 +196,6 @@ module _ {D : Type 0} (drive : Ghosts D) where
     _,
     record {
       steps = Steps.misses ticket place counts (read_failed ticket place counts old new d block step m);
-      answers = missed_keeps ticket counts old new m.answered m.replies;
+      answers = missed_keeps ticket counts old new m.answered m.missed.replies;
     },
   )

@@ -1,5 +1,5 @@
 -- What the parts of a step do to the parts of a volume.
-use Rattle.std.specs.Prelude.{ℕ, ◌≡◌, ◌≤◌, ◌==◌, not, ◌&&◌, Bool, true, false, cond, drop, List, [], ◌∷◌, ◌++◌, filter}
+use Rattle.std.specs.Prelude.{ℕ, ◌≡◌, ◌≤◌, ◌==◌, ◌&&◌, Bool, true, false, cond, drop, List, [], ◌∷◌, ◌++◌}
 use Rattle.std.specs.Prelude.{length, Option, Some, None, slice_get}
 use Rattle.std.specs.List.{list_any}
 use Rattle.tape_types.specs.declared.cartridges.Part.TheVariants.{Dp}
@@ -17,12 +17,11 @@ use Rattle.tape_drive.specs.declared.drive.Got.{Got}
 use Rattle.tape_layout.specs.declared.ops.Op.{Op}
 use Rattle.tape_layout.specs.Ops.{is_flush, place_of}
 use Rattle.serving_promise.specs.Served.{headed}
-use Rattle.event_journal.specs.Trails.{due_ticket, first_waiter, kept_for_drain, state}
-use Rattle.waiting_reads.specs.Gathering.{Gathering}
-use Rattle.waiting_reads.specs.Waiting.{IsFilledBy, answer_for}
+use Rattle.event_journal.specs.Trails.{due_ticket, state}
+use Rattle.waiting_reads.specs.Waiting.{answer_for}
 use Rattle.state_laws.specs.Parts.{Parts}
-use Rattle.state_laws.specs.Stepping.{IsKeptAfter, IsOneRead, IsOneRequest, IsReadOn, KeepsListed, ReadsOnly, acks_at}
-use Rattle.state_laws.specs.Stepping.{all_synced, on_done, replied, settles_dp, synced_events, told_fault}
+use Rattle.state_laws.specs.Stepping.{IsBlockTaken, IsFaultTold, IsOpDone, IsRequestMissed, KeepsListed, acks_at}
+use Rattle.state_laws.specs.Stepping.{all_synced, replied, synced_events}
 
 -- there is something for the head: a request, or an op for which somebody waits
 abbrev pub HasWork : {D : Type 0} → Parts D → Type 0
@@ -83,18 +82,8 @@ pub record AnswersSyncs {D : Type 0} (commands : ℕ) (tickets : List ℕ) (old 
 -- The first op failed on the drive: who has waited longest is told.
 pub record TellsFault {D : Type 0} (op : Op) (counts : Twin) (old new : Parts D) : Type 0 where
   pub drive : new.drive ≡ old.drive
-  pub stock : new.stock ≡ old.stock
-  pub on : new.on ≡ old.on
-  pub events : new.trail.events ≡ old.trail.events ++ the_events.Worked (place_of op) (Some counts) ∷ []
-  pub trail : IsTrail new.trail.events
-  pub acks : new.trail.acks ≡ old.trail.acks
-  pub kept : new.trail.kept ≡ old.trail.kept ++ kept_for_drain (state old.trail) counts
-  pub listed : KeepsListed old new
-  pub replies : new.listed.replies ≡ told_fault (first_waiter (state old.trail)) counts old.listed.replies
-  pub queue : new.queue ≡ old.queue
   pub answered : new.answered ≡ old.answered
-  pub reads : new.reads ≡ old.reads
-  pub cached : new.cached ≡ old.cached
+  pub told : IsFaultTold op counts old new
 
 -- the answer of a read that has met all its blocks is kept, too
 abbrev pub KeepsAnswer : {D : Type 0} → Bool → ℕ → Parts D → Parts D → Type 0
@@ -106,30 +95,14 @@ KeepsAnswer false ticket old new = (gives : Answer) × (new.answered ≡ old.ans
 pub record TakesBlock {D : Type 0} (ticket : ℕ) (place : Place) (got : Got) (block : List ℕ) (old new : Parts D)
     : Type 0 where
   pub drive : new.drive ≡ old.drive
-  pub only : ReadsOnly old new
-  pub events : new.trail.events ≡ old.trail.events ++ the_events.Served ticket place None ∷ []
-  pub request : IsOneRequest old.queue.waiting ticket place
-  pub queue : new.queue.waiting ≡ request.front ++ request.behind
-  pub read : IsOneRead old.reads ticket
-  pub next : Gathering
-  pub filled : IsFilledBy place block read.one next
   pub answered : KeepsAnswer (list_any (λ w. w.owner == ticket) new.queue.waiting) ticket old new
-  pub reads : IsReadOn (list_any (λ w. w.owner == ticket) new.queue.waiting) ticket read.front read.behind next
-      new.reads old.listed.replies new.listed.replies
-  pub cached : IsKeptAfter got place block old.cached new.cached
+  pub taken : IsBlockTaken ticket place got block old new
 
 -- The step for a request failed.
 pub record MissesBlock {D : Type 0} (ticket : ℕ) (place : Place) (counts : Twin) (old new : Parts D) : Type 0 where
   pub drive : new.drive ≡ old.drive
-  pub only : ReadsOnly old new
-  pub events : new.trail.events ≡ old.trail.events ++ the_events.Served ticket place (Some counts) ∷ []
-  pub request : IsOneRequest old.queue.waiting ticket place
-  pub queue : new.queue.waiting ≡ filter (λ w. not (w.owner == ticket)) old.queue.waiting
-  pub read : IsOneRead old.reads ticket
   pub answered : new.answered ≡ old.answered
-  pub reads : new.reads ≡ read.front ++ read.behind
-  pub cached : new.cached ≡ old.cached
-  pub replies : new.listed.replies ≡ replied ticket (the_replies.Fault counts) old.listed.replies
+  pub missed : IsRequestMissed ticket place counts old new
 
 -- placement on the index partition begins with the first flush of the data partition
 abbrev pub settles : Place → Bool → Bool
@@ -161,22 +134,5 @@ pub record TakesOp {D : Type 0} (place : Place) (flush : Bool) (old new : Parts 
 -- an op that the head has done is taken out, and each sync that is due then was answered
 pub record FinishesOp {D : Type 0} (commands : ℕ) (op : Op) (tickets : List ℕ) (old new : Parts D) : Type 0 where
   pub drive : new.drive ≡ old.drive
-  pub first : old.stock.layout.ops ≡ op ∷ new.stock.layout.ops
-  pub stock : new.stock ≡ record old.stock {
-    layout = record old.stock.layout {
-      ops = new.stock.layout.ops;
-      ip_on = cond (settles_dp op) true old.stock.layout.ip_on;
-    };
-  }
-  pub on : new.on ≡ on_done op (length old.listed.history) old.on
-  pub events : new.trail.events ≡ old.trail.events ++ the_events.Worked (place_of op) None ∷ synced_events tickets
-  pub trail : IsTrail new.trail.events
-  pub none_due : due_ticket (state new.trail) ≡ None
-  pub acks : new.trail.acks ≡ old.trail.acks ++ acks_at commands tickets
-  pub kept : new.trail.kept ≡ old.trail.kept
-  pub listed : KeepsListed old new
-  pub replies : new.listed.replies ≡ all_synced tickets old.listed.replies
-  pub queue : new.queue ≡ old.queue
   pub answered : new.answered ≡ old.answered
-  pub reads : new.reads ≡ old.reads
-  pub cached : new.cached ≡ old.cached
+  pub done : IsOpDone commands op tickets old new

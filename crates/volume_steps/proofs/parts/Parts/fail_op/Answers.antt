@@ -13,23 +13,25 @@ returns g c op here =
     let same = c.tell_fault.ensures.others in
     record {
       drive = ap (λ (p : Held D). p.head.drive) same;
-      stock = ap (λ (p : Held D). p.stock) same;
-      on = ap (λ (p : Held D). p.on) same;
-      events = c.write.ensures.events ∙ ap (λ (p : Held D). p.trail.events ++ Worked c.args.place (Some c.args.counts) ∷ []) same
-          ∙ ap (λ (at : Place). c.args.self.now.trail.events ++ Worked at (Some c.args.counts) ∷ []) here;
-      trail = c.head-at.ensures.trail;
-      acks = c.write.ensures.acks ∙ append-nil _ ∙ ap (λ (p : Held D). p.trail.acks) same;
-      kept = c.write.ensures.kept
-          ∙ ap (λ (p : Held D). p.trail.kept ++ kept_for_drain (state p.trail) c.args.counts) same;
-      listed = record {
-        history = c.tell_fault.ensures.listed.history;
-        marks = c.tell_fault.ensures.listed.marks;
-        calls = c.tell_fault.ensures.listed.calls;
-        sessions = c.tell_fault.ensures.listed.sessions;
-      };
-      replies = c.tell_fault.ensures.replies;
-      queue = ap (λ (p : Held D). p.queue) same;
       answered = ap (λ (p : Held D). p.reads.answered) same;
-      reads = ap (λ (p : Held D). p.reads.reads) same;
-      cached = ap (λ (p : Held D). p.cache) same;
+      told = record {
+        stock = ap (λ (p : Held D). p.stock) same;
+        on = ap (λ (p : Held D). p.on) same;
+        events = c.write.ensures.events ∙ ap (λ (p : Held D). p.trail.events ++ Worked c.args.place (Some c.args.counts) ∷ []) same
+            ∙ ap (λ (at : Place). c.args.self.now.trail.events ++ Worked at (Some c.args.counts) ∷ []) here;
+        trail = c.head-at.ensures.trail;
+        acks = c.write.ensures.acks ∙ append-nil _ ∙ ap (λ (p : Held D). p.trail.acks) same;
+        kept = c.write.ensures.kept
+            ∙ ap (λ (p : Held D). p.trail.kept ++ kept_for_drain (state p.trail) c.args.counts) same;
+        listed = record {
+          history = c.tell_fault.ensures.listed.history;
+          marks = c.tell_fault.ensures.listed.marks;
+          calls = c.tell_fault.ensures.listed.calls;
+          sessions = c.tell_fault.ensures.listed.sessions;
+        };
+        replies = c.tell_fault.ensures.replies;
+        queue = ap (λ (p : Held D). p.queue) same;
+        reads = ap (λ (p : Held D). p.reads.reads) same;
+        cached = ap (λ (p : Held D). p.cache) same;
+      };
     }
