@@ -129,6 +129,7 @@ fn made(
 }
 
 #[tactic(auto, unfolding(crate::specs::Pieces::close_at))]
+#[inline(always)]
 fn close(frame: Frame, text: &[u8], at: usize) -> Result<(Piece, usize), PieceErr>
     requires { at ≤ length text.now }
     ensures room { IfOk result (λ x. (nodes : ℕ) → HasRoom x.0 nodes) }
@@ -143,6 +144,7 @@ fn close(frame: Frame, text: &[u8], at: usize) -> Result<(Piece, usize), PieceEr
 
 /// A child, by its start tag as it is written where that is the likely one.
 #[tactic(auto, unfolding(crate::specs::Pieces::child_at))]
+#[inline(always)]
 fn child(
     alloc: Global,
     frame: Frame,
@@ -166,6 +168,7 @@ fn child(
 
 /// The same, whatever stands there.
 #[tactic(auto, unfolding(crate::specs::Pieces::child_at))]
+#[inline(always)]
 fn any_child(
     alloc: Global,
     frame: Frame,
@@ -199,6 +202,7 @@ fn any_child(
 /// The piece that follows inside an open parent, in a document with so many nodes before it, and
 /// the place behind the piece.
 #[tactic(auto, unfolding(crate::specs::Pieces::piece_at))]
+#[inline(always)]
 pub fn next_piece(
     alloc: Global,
     frame: Frame,

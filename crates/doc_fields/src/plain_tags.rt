@@ -95,6 +95,7 @@ fn past_end(tag: Tag, text: &[u8], at: usize) -> Option<usize>
 
 /// The start tag that stands at a place as it is written, if one of this element does and is looked for.
 #[tactic(auto, using(crate::proofs::PlainTags::named, crate::proofs::PlainTags::rest))]
+#[inline(always)]
 pub fn plain_start(tag: Tag, text: &[u8], at: usize) -> Option<Start>
     requires { at ≤ length text.now }
     ensures named { IfSome result (λ _. named_at text.now at ≡ Ok (tag, at + 1 + length (spelled tag))) }

@@ -452,6 +452,7 @@ impl Draft {
     }
 
     /// A leaf of a parent, whose children speak of a node.
+    #[inline(always)]
     pub fn tell(
         &mut self,
         place: Container,

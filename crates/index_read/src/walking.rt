@@ -37,6 +37,7 @@ fn node_in(place: Container, node: u32, nodes: u32) -> u32
 }
 
 /// Opens and closes parents as a piece says; true where none is left.
+#[inline(always)]
 fn moved(
     piece: &Piece,
     nodes: u32,
@@ -92,6 +93,7 @@ fn with_child(level: Level, tag: Tag) -> Level
 }
 
 /// Takes in what a piece tells, which stands in an open parent.
+#[inline(always)]
 fn tell(alloc: Global, draft: &mut Draft, level: Level, piece: Piece) -> Result<(), NoMemory>
     requires { length draft.old.nodes.items ≤ most_nodes }
     ensures { OnOk result (state_of draft.new ≡ piece_told (piece_of piece) (level_in level) (state_of draft.old)) }
