@@ -91,6 +91,20 @@ def run_at_terminal(words, cwd, given=b"", env=None, meanwhile=None, **more):
     return Ran(process.returncode, out, b"".join(said).replace(b"\r\n", b"\n"))
 
 
+def await_program(process):
+    """Waits until a child of this launcher is the program that it runs."""
+    limit = time.monotonic() + LIMIT
+    while time.monotonic() < limit:
+        for it in pathlib.Path("/proc").glob("[0-9]*"):
+            try:
+                words, parent = (it / "cmdline").read_bytes(), (it / "stat").read_text().rpartition(")")[2].split()[1]
+            except OSError:
+                continue
+            if parent == str(process.pid) and (b"/launch/built/" in words or b"/out/" in words):
+                return
+        time.sleep(0.1)
+
+
 def read_terminal(here, said):
     while True:
         try:

@@ -7,8 +7,8 @@ import signal
 import time
 
 from cases import compare
-from clones import (FIRST_LOG, FIRST_SCRIPT, clone, environment, fresh_folder, ready, run, run_at_terminal,
-                    volume, with_index_tool, without_rt)
+from clones import (FIRST_LOG, FIRST_SCRIPT, await_program, clone, environment, fresh_folder, ready, run,
+                    run_at_terminal, volume, with_index_tool, without_rt)
 
 COMMANDS = {
     "ltfs_server": ["plain", "label", "format", "list", "generations", "view", "serve", "make"],
@@ -158,7 +158,8 @@ def ended_at_terminal():
     found = []
     for number in (signal.SIGTERM, signal.SIGINT):
         def tell(process, number=number):
-            time.sleep(3)
+            await_program(process)
+            time.sleep(1)
             os.killpg(process.pid, number) if number == signal.SIGINT else process.send_signal(number)
             process.wait(timeout=30)
 
