@@ -11,7 +11,7 @@ use Rattle.index_model.specs.declared.nodes.NodeKind.TheVariants as kinds
 use Rattle.index_model.specs.declared.nodes.Node.{Node}
 use Rattle.index_model.specs.declared.nodes.RawExtent.{RawExtent}
 use Rattle.index_model.specs.Extents.{Covers, EndsTooFar, HasOverlap, IsBadFile, IsFileAt, IsOutOfBounds, Overlap}
-use Rattle.node_keys.specs.declared.xattrs.Xattr.{Xattr}
+use Rattle.tape_types.specs.declared.node_keys.xattrs.Xattr.{Xattr}
 use Rattle.index_model.specs.Keys.{AreKeysApart, HasKeyTwice}
 use Rattle.index_model.specs.Names.{AreNamesApart, HasTakenName, HaveOneName}
 use Rattle.index_model.specs.Places.{IsFirst}

@@ -1,10 +1,10 @@
 -- Each text is that of an index, or stops.
 use Rattle.std.proofs.Common.{◌⊎◌, ⊎_elim, ℕ, List, [], IsUtf8, inl, inr, refl, sym, subst, ◌∙◌}
-use Rattle.doc_elements.specs.declared.schema.Container.TheVariants as place
-use Rattle.doc_elements.specs.Documents.{Accepts, IsAccepted, IsStopped}
-use Rattle.doc_elements.specs.Pieces.{Piece}
-use Rattle.doc_elements.proofs.Ends.{accepted_or_stops}
-use Rattle.doc_elements.proofs.Trees.{elements_of}
+use Rattle.ltfs_documents.specs.declared.doc_elements.schema.Container.TheVariants as place
+use Rattle.ltfs_documents.specs.DocElements.Documents.{Accepts, IsAccepted, IsStopped}
+use Rattle.ltfs_documents.specs.DocElements.Pieces.{Piece}
+use Rattle.ltfs_documents.proofs.DocElements.Ends.{accepted_or_stops}
+use Rattle.ltfs_documents.proofs.DocElements.Trees.{elements_of}
 use Rattle.index_model.specs.declared.errors.IndexErr.{IndexErr}
 use Rattle.index_model.specs.declared.faults.Fault.{Fault}
 use Rattle.index_model.specs.declared.indexes.Index.{Index}

@@ -22,7 +22,7 @@ use Rattle.cartridge_meaning.proofs.Decided.{FirstOutside, all_or_first, known_o
 use Rattle.cartridge_meaning.proofs.IndexOrStops.{index_or_stops}
 use Rattle.cartridge_meaning.proofs.Known.{Known, known_eq}
 use Rattle.ltfs_label.proofs.Texts.{label_formatted}
-use Rattle.doc_fields.proofs.Moments.{HasMoment}
+use Rattle.ltfs_documents.proofs.DocFields.Moments.{HasMoment}
 use Rattle.cartridge_meaning.proofs.OneFault.{IsBad}
 
 -- a label that says this

@@ -1,6 +1,6 @@
 -- What no call of a volume changes, and each index takes over from the one before it (LTFS 2.4 on the index).
 use Rattle.std.specs.Prelude.{ℕ, Bool, List, [], ◌∷◌, Option}
-use Rattle.doc_fields.specs.declared.values.LockState.{LockState}
+use Rattle.ltfs_documents.specs.declared.doc_fields.values.LockState.{LockState}
 use Rattle.index_model.specs.declared.indexes.Index.{Index}
 use Rattle.index_model.specs.declared.indexes.Policy.{Policy}
 use Rattle.index_model.specs.declared.nodes.Node.{Node}

@@ -8,10 +8,10 @@ use Rattle.std.proofs.lemmas.List.{map-append}
 use Rattle.std.proofs.lemmas.List.Elements.{filter-append}
 use Rattle.plain_tree.specs.declared.calls.Placed.{Placed}
 use Rattle.session_script.specs.declared.logs.Reply.{Reply}
-use Rattle.serving_promise.specs.declared.marks.Mark.{Mark}
-use Rattle.serving_promise.specs.declared.marks.MarkKind.{MarkKind}
-use Rattle.serving_promise.specs.declared.marks.MarkKind.TheVariants as kinds
-use Rattle.serving_promise.specs.Marks.{idle, draining, waits, after, kinds_of, mark, phase}
+use Rattle.promises.specs.declared.serving_promise.marks.Mark.{Mark}
+use Rattle.promises.specs.declared.serving_promise.marks.MarkKind.{MarkKind}
+use Rattle.promises.specs.declared.serving_promise.marks.MarkKind.TheVariants as kinds
+use Rattle.promises.specs.ServingPromise.Marks.{idle, draining, waits, after, kinds_of, mark, phase}
 use Rattle.event_journal.specs.declared.placements.Stored.{Stored}
 use Rattle.event_journal.specs.declared.placements.What.{What}
 use Rattle.event_journal.specs.declared.placements.What.TheVariants as stored

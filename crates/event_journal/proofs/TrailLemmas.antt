@@ -13,15 +13,15 @@ use Rattle.tape_types.specs.declared.cartridges.Twin.{Twin}
 use Rattle.session_script.specs.declared.logs.Event.{Event}
 use Rattle.session_script.specs.declared.logs.Event.TheVariants.{Wants, Queues, Syncs, Synced, Drains, Rests, Served}
 use Rattle.session_script.specs.declared.logs.Event.TheVariants.{Worked}
-use Rattle.event_laws.specs.Load.{load}
-use Rattle.event_laws.specs.Trail.{after, after_all, after_op, allows, is_answered, is_trail_from, without_first_op}
-use Rattle.event_laws.specs.Trail.{without_first_waiter}
-use Rattle.event_laws.specs.Waiting.{Op, State, start, ops, waiting_op, with_flushes}
-use Rattle.event_laws.specs.Waiting as waiting
-use Rattle.event_laws.proofs.TrailLaw.{first_of as left_of, second_of as right_of}
-use Rattle.event_laws.proofs.LoadLaw.{fewer, steps_lower_the_load, trails_change_the_load}
-use Rattle.event_laws.proofs.OpLaw.{all_wait, done_more, ever, ever_one, ops_done, ops_queued}
-use Rattle.serving_promise.specs.Steps.{without_session}
+use Rattle.head_queue.specs.EventLaws.Load.{load}
+use Rattle.head_queue.specs.EventLaws.Trail.{after, after_all, after_op, allows, is_answered, is_trail_from, without_first_op}
+use Rattle.head_queue.specs.EventLaws.Trail.{without_first_waiter}
+use Rattle.head_queue.specs.EventLaws.Waiting.{Op, State, start, ops, waiting_op, with_flushes}
+use Rattle.head_queue.specs.EventLaws.Waiting as waiting
+use Rattle.head_queue.proofs.EventLaws.TrailLaw.{first_of as left_of, second_of as right_of}
+use Rattle.head_queue.proofs.EventLaws.LoadLaw.{fewer, steps_lower_the_load, trails_change_the_load}
+use Rattle.head_queue.proofs.EventLaws.OpLaw.{all_wait, done_more, ever, ever_one, ops_done, ops_queued}
+use Rattle.promises.specs.ServingPromise.Steps.{without_session}
 use Rattle.event_journal.specs.declared.trails.KeptFault.{KeptFault}
 use Rattle.event_journal.specs.declared.trails.SyncWait.{SyncWait}
 use Rattle.event_journal.specs.declared.trails.Trail.TheInside.{Inside}

@@ -5,10 +5,10 @@ use Rattle.std.specs.List.{AllByRecursion}
 use Rattle.plain_tree.specs.declared.calls.Placed.{Placed}
 use Rattle.session_script.specs.declared.logs.Reply.{Reply}
 use Rattle.session_script.specs.declared.logs.Reply.TheVariants as replies
-use Rattle.serving_promise.specs.declared.marks.Mark.{Mark}
-use Rattle.serving_promise.specs.declared.marks.MarkKind.{MarkKind}
-use Rattle.serving_promise.specs.declared.marks.MarkKind.TheVariants as kinds
-use Rattle.serving_promise.specs.Marks.{Phase, idle, draining, waits, phase, mark}
+use Rattle.promises.specs.declared.serving_promise.marks.Mark.{Mark}
+use Rattle.promises.specs.declared.serving_promise.marks.MarkKind.{MarkKind}
+use Rattle.promises.specs.declared.serving_promise.marks.MarkKind.TheVariants as kinds
+use Rattle.promises.specs.ServingPromise.Marks.{Phase, idle, draining, waits, phase, mark}
 use Rattle.event_journal.specs.declared.placements.Stored.{Stored}
 use Rattle.event_journal.specs.declared.placements.What.{What}
 use Rattle.event_journal.specs.declared.placements.What.TheVariants as stored

@@ -7,10 +7,10 @@ use Rattle.tape_types.specs.declared.cartridges.Place.{Place}
 use Rattle.session_script.specs.declared.logs.Event.{Event}
 use Rattle.session_script.specs.declared.logs.Event.TheVariants.{Wants, Queues, Syncs, Synced, Drains, Rests}
 use Rattle.session_script.specs.declared.logs.Event.TheVariants.{Worked}
-use Rattle.event_laws.specs.Waiting as waiting
-use Rattle.event_laws.specs.Waiting.{State, ops}
-use Rattle.event_laws.specs.Trail.{IsTrail, after_all}
-use Rattle.event_laws.specs.Load.{load}
+use Rattle.head_queue.specs.EventLaws.Waiting as waiting
+use Rattle.head_queue.specs.EventLaws.Waiting.{State, ops}
+use Rattle.head_queue.specs.EventLaws.Trail.{IsTrail, after_all}
+use Rattle.head_queue.specs.EventLaws.Load.{load}
 use Rattle.event_journal.specs.declared.trails.KeptFault.{KeptFault}
 use Rattle.event_journal.specs.declared.trails.SyncWait.{SyncWait}
 use Rattle.event_journal.specs.declared.trails.Waiter.{Waiter}

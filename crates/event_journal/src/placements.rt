@@ -4,8 +4,8 @@ ghost use Rattle.std.specs.Prelude.{◌≡◌, ◌≢◌, ◌+◌, ◌*◌, ◌<
 ghost use Rattle.std.specs.Prelude.{is_some, length, map, OnOk, IfOk, IfSome, None, Some, Option, option_map};
 ghost use Rattle.std.specs.Prelude.{slice_get, slice_set, vec_len, vec_capacity};
 ghost use Rattle.session_script.specs.declared.logs.Reply.{Reply};
-ghost use Rattle.serving_promise.specs.declared.marks.MarkKind.TheVariants as kinds;
-ghost use Rattle.serving_promise.specs.Marks.{draining, mark, phase, waits};
+ghost use Rattle.promises.specs.declared.serving_promise.marks.MarkKind.TheVariants as kinds;
+ghost use Rattle.promises.specs.ServingPromise.Marks.{draining, mark, phase, waits};
 ghost use Rattle.event_journal.specs.Placements.{Listed, or_none, there};
 
 use crate::lists::{all_there, push};

@@ -4,10 +4,10 @@ ghost use Rattle.std.specs.Prelude.{◌≡◌, ◌+◌, ◌-◌, ◌≤◌, ◌<
 ghost use Rattle.std.specs.Prelude.{not, ◌==◌, [], ◌∷◌, ◌++◌, length, true, false, OnOk, IfSome, None, Some, Option};
 ghost use Rattle.std.specs.Prelude.{option_map, MatchOption};
 ghost use Rattle.session_script.specs.declared.logs.Event.TheVariants as events;
-ghost use Rattle.event_laws.specs.Waiting.{first_of, ops};
-ghost use Rattle.event_laws.specs.Trail.{IsTrail, after, allows};
-ghost use Rattle.serving_promise.specs.Faults.{kept_for};
-ghost use Rattle.serving_promise.specs.Steps.{without_session};
+ghost use Rattle.head_queue.specs.EventLaws.Waiting.{first_of, ops};
+ghost use Rattle.head_queue.specs.EventLaws.Trail.{IsTrail, after, allows};
+ghost use Rattle.promises.specs.ServingPromise.Faults.{kept_for};
+ghost use Rattle.promises.specs.ServingPromise.Steps.{without_session};
 ghost use Rattle.event_journal.specs.Trails.{Journaled, acks_of, asked_by, drains_left, due_ticket, first_waiter};
 ghost use Rattle.event_journal.specs.Trails.{kept_as, kept_from, kept_of, moves_waiters, state, waiters_of};
 

@@ -9,7 +9,7 @@ use Rattle.plain_tree.specs.Tree.{Tree}
 use Rattle.session_script.specs.declared.scripts.ScriptLine.{ScriptLine}
 use Rattle.tape_drive.specs.Crashes.{LeavesAllowed, WithinWrite}
 use Rattle.cartridge_meaning.specs.Carried.{Carried}
-use Rattle.crash_laws.specs.May.{IsLeftBy}
+use Rattle.promises.specs.CrashLaws.May.{IsLeftBy}
 use Rattle.fenced_drive.specs.Laws.{AllowsThePromise, ForbidsErasing}
 
 -- each image that the owner allows is sound, and stands for a tree of some history

@@ -11,10 +11,10 @@ use Rattle.session_script.specs.Grammar.{calls_of}
 use Rattle.session_script.specs.declared.scripts.ScriptLine.{ScriptLine}
 use Rattle.tape_drive.specs.Crashes.{LeavesAllowed, WithinWrite}
 use Rattle.cartridge_meaning.specs.Carried.{Carried}
-use Rattle.serving_promise.specs.Crash.{IsSound, StandsWithin}
-use Rattle.serving_promise.specs.Meanings.{cartridges}
-use Rattle.serving_promise.specs.Served.{IsPlacedSoFar}
-use Rattle.crash_laws.specs.May.{IsLeftBy}
+use Rattle.promises.specs.ServingPromise.Crash.{IsSound, StandsWithin}
+use Rattle.promises.specs.ServingPromise.Meanings.{cartridges}
+use Rattle.promises.specs.ServingPromise.Served.{IsPlacedSoFar}
+use Rattle.promises.specs.CrashLaws.May.{IsLeftBy}
 
 -- Each image that is allowed is sound, and stands for the tree after some first placements of a history of the script.
 abbrev pub AllowsThePromise : Type 0

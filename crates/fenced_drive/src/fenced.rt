@@ -50,7 +50,7 @@ impl<D: Unowned, O: Order> Fenced<D, O> {
 }
 
 impl<D: Unowned, O: Order> Drive for Fenced<D, O> {
-    ghost use Rattle.crash_laws.specs.May.{IsLeftBy};
+    ghost use Rattle.promises.specs.CrashLaws.May.{IsLeftBy};
 
     const MOST: u64 = D::MOST;
 

@@ -5,9 +5,9 @@ use Rattle.std.specs.List.{AllByRecursion, slice_get}
 use Rattle.std.specs.FinMap as fin
 use Rattle.tape_types.specs.Bounds.{longest_file}
 use Rattle.tape_types.specs.declared.cartridges.Extent.{Extent}
-use Rattle.node_keys.specs.declared.xattrs.Xattr.{Xattr}
-use Rattle.node_keys.specs.Keys.{list_of}
-use Rattle.node_keys.proofs.ListLaws.{list_apart, places_apart}
+use Rattle.tape_types.specs.declared.node_keys.xattrs.Xattr.{Xattr}
+use Rattle.tape_types.specs.NodeKeys.Keys.{list_of}
+use Rattle.tape_types.proofs.NodeKeys.ListLaws.{list_apart, places_apart}
 use Rattle.index_model.specs.declared.nodes.Node as told
 use Rattle.index_model.specs.declared.nodes.NodeKind as told_kind
 use Rattle.index_model.specs.declared.nodes.NodeKind.TheVariants as told_kinds

@@ -7,7 +7,7 @@ use Rattle.tape_types.specs.Bounds.{longest_name}
 use Rattle.tape_types.specs.Names.{name_fault, has_byte, is_dot}
 use Rattle.tape_types.specs.declared.names.NameErr.{NameErr}
 use Rattle.tape_types.specs.declared.names.NameErr.TheVariants as faults
-use Rattle.node_keys.specs.Keys.{KeyRoom}
+use Rattle.tape_types.specs.NodeKeys.Keys.{KeyRoom}
 use Rattle.index_model.specs.Names.{IsNodeName}
 use Rattle.plain_tree.specs.declared.calls.Refusal.TheVariants as refusals
 use Rattle.plain_tree.specs.Paths.{is_at_or_below}

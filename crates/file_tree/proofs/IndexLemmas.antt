@@ -9,7 +9,7 @@ use Rattle.tape_types.specs.Bounds.{longest_file, most_nodes}
 use Rattle.tape_types.specs.declared.cartridges.Extent.{Extent}
 use Rattle.tape_types.specs.declared.cartridges.Part.{Part}
 use Rattle.tape_types.specs.declared.cartridges.Part.TheVariants as parts
-use Rattle.node_keys.proofs.ListLaws.{map_back, found_in_list}
+use Rattle.tape_types.proofs.NodeKeys.ListLaws.{map_back, found_in_list}
 use Rattle.index_model.specs.declared.indexes.Index.{Index}
 use Rattle.index_model.specs.declared.nodes.Node as told
 use Rattle.index_model.specs.declared.nodes.RawExtent.{RawExtent}

@@ -10,8 +10,8 @@ use Rattle.plain_tree.specs.Valid.{is_dir, mark_of, mark_at, IsShape}
 use Rattle.plain_tree.proofs.NodeLemmas.{path_total}
 use Rattle.plain_tree.proofs.SeenLemmas.{unlike}
 use Rattle.plain_tree.proofs.LinkLemmas.{on_ok}
-use Rattle.node_keys.specs.Keys as keys
-use Rattle.node_keys.proofs.ListLaws.{apart_by_places}
+use Rattle.tape_types.specs.NodeKeys.Keys as keys
+use Rattle.tape_types.proofs.NodeKeys.ListLaws.{apart_by_places}
 use Rattle.index_model.specs.declared.indexes.Index.{Index}
 use Rattle.index_model.specs.declared.nodes.Node as told
 use Rattle.index_model.specs.declared.nodes.NodeKind as told_kind

@@ -9,7 +9,7 @@ use Rattle.plain_tree.specs.declared.calls.Call.{Call}
 use Rattle.plain_tree.specs.declared.calls.Call.TheVariants as asks
 use Rattle.plain_tree.specs.declared.calls.Sort.{Sort}
 use Rattle.plain_tree.specs.declared.calls.Sort.TheVariants as sorts
-use Rattle.node_keys.specs.Keys.{key_cmp}
+use Rattle.tape_types.specs.NodeKeys.Keys.{key_cmp}
 use Rattle.plain_tree.specs.Paths.{parent_of}
 use Rattle.plain_tree.specs.Refusals.{refusal_of, new_refusal, bad_name}
 use Rattle.plain_tree.specs.Calls.{after, after_done, after_unless, with_new}

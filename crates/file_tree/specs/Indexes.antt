@@ -4,7 +4,7 @@ use Rattle.std.specs.Option.{option_map}
 use Rattle.std.specs.FinMap as fin
 use Rattle.index_model.specs.declared.indexes.Index.{Index}
 use Rattle.std.specs.declared.cmp.Ordering.TheVariants.{Less}
-use Rattle.node_keys.specs.Keys.{list_of, map_of}
+use Rattle.tape_types.specs.NodeKeys.Keys.{list_of, map_of}
 use Rattle.index_model.specs.declared.nodes.Node as told
 use Rattle.index_model.specs.declared.nodes.NodeKind as told_kind
 use Rattle.index_model.specs.declared.nodes.NodeKind.TheVariants as told_kinds

@@ -7,7 +7,7 @@ use Rattle.tape_types.specs.Bounds.{most_nodes}
 use Rattle.tape_types.specs.declared.cartridges.Extent.{Extent}
 use Rattle.tape_types.specs.declared.cartridges.Part.{Part}
 use Rattle.tape_types.specs.declared.cartridges.Part.TheVariants as parts
-use Rattle.node_keys.specs.Keys.{map_of}
+use Rattle.tape_types.specs.NodeKeys.Keys.{map_of}
 use Rattle.index_model.specs.declared.indexes.Index.{Index}
 use Rattle.index_model.specs.declared.nodes.Node as told
 use Rattle.index_model.specs.declared.nodes.NodeKind as told_kind

@@ -4,7 +4,7 @@ use Rattle.std.specs.FinMap as fin
 use Rattle.tape_types.specs.declared.cartridges.Extent.{Extent}
 use Rattle.tape_types.specs.declared.cartridges.Part.{Part}
 use Rattle.tape_types.specs.declared.cartridges.Part.TheVariants as parts
-use Rattle.node_keys.specs.Keys.{list_of}
+use Rattle.tape_types.specs.NodeKeys.Keys.{list_of}
 use Rattle.index_model.specs.declared.nodes.Node as told
 use Rattle.index_model.specs.declared.nodes.NodeKind as told_kind
 use Rattle.index_model.specs.declared.nodes.NodeKind.TheVariants as told_kinds

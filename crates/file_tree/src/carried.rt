@@ -1,8 +1,8 @@
 ghost use Rattle.std.specs.Prelude.{◌≡◌, IfOk};
 ghost use Rattle.file_tree.specs.Carried.{carried_of, index_of};
 
-use doc_fields::LockState;
 use index_model::{Index, Node, Policy, Spot, TextList};
+use ltfs_documents::doc_fields::LockState;
 use std::alloc::Global;
 use tape_types::{List, Moment, NoMemory, Text};
 

@@ -2,16 +2,16 @@ ghost use Rattle.std.specs.Prelude.{◌≡◌, ◌+◌, ◌<◌, length, OnOk, I
 ghost use Rattle.file_tree.specs.Mounts.{IsKindOf, IsNodeOf, IsBuilt, AreTold};
 ghost use Rattle.file_tree.specs.Raws.{CanKeep, LiesWell};
 ghost use Rattle.file_tree.specs.Valid.{AreFilesOf};
-ghost use Rattle.node_keys.specs.Keys.{AreKeysApart};
+ghost use Rattle.tape_types.specs.NodeKeys.Keys.{AreKeysApart};
 
 use crate::nodes::{HeldKind, Node};
 use crate::places::Places;
 use crate::raws::{Letters, extents_from};
 use crate::store::Store;
 use index_model::{Node as ToldNode, NodeKind as ToldKind};
-use node_keys::Keys;
 use std::alloc::Global;
 use tape_types::NoMemory;
+use tape_types::node_keys::Keys;
 
 /// The nodes of an index, each under the number of its place.
 pub fn place_nodes(

@@ -1,5 +1,5 @@
 use extent_map::Extents;
-use node_keys::Keys;
+use tape_types::node_keys::Keys;
 use tape_types::{Text, Times};
 
 /// What stands at a path of the tree.

@@ -7,8 +7,8 @@ ghost use Rattle.file_tree.specs.Told.{AreApart};
 use crate::nodes::{HeldKind, Node};
 use crate::raws::Letters;
 use index_model::{Node as ToldNode, NodeKind as ToldKind, RawExtent};
-use node_keys::Xattr;
 use std::alloc::Global;
+use tape_types::node_keys::Xattr;
 use tape_types::{Extent, List, NoMemory, Part, Text};
 
 /// At each number the place that it has in the list. All are below the count.

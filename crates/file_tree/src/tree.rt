@@ -14,10 +14,10 @@ use crate::places::Places;
 use crate::raws::Letters;
 use extent_map::Extents;
 use index_model::Index;
-use node_keys::Keys;
 use plain_tree::{Entry, Facts, Sort};
 use std::alloc::Global;
 use std::marker::Model;
+use tape_types::node_keys::Keys;
 use tape_types::{Extent, List, Moment, NoMemory, Text, Times};
 
 /// The tree of a volume while the server runs: directories, files as extents, and links (LTFS 2.4 on the index). Each

@@ -15,8 +15,8 @@ use Rattle.file_tree.proofs.MountLemmas.{first_built}
 use Rattle.file_tree.proofs.PathLemmas.{same_nodes}
 use Rattle.file_tree.proofs.PlainLemmas.{plain_insert, plain_none}
 use Rattle.plain_tree.specs.Paths.{path_cmp}
-use Rattle.index_construct.specs.Blocks.{blocks_of}
-use Rattle.index_construct.proofs.Cuts.{cut_in_one_way}
+use Rattle.tape_layout.specs.IndexConstruct.Blocks.{blocks_of}
+use Rattle.tape_layout.proofs.IndexConstruct.Cuts.{cut_in_one_way}
 use Rattle.index_model.specs.Canonical as index_text
 use Rattle.index_model.specs.Grammar.{IndexText}
 use Rattle.index_model.specs.declared.nodes.Node.{Node}

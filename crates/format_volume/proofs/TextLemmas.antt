@@ -8,15 +8,15 @@ use Rattle.std.proofs.lemmas.List.Elements.{All-nil, All-cons}
 use Rattle.std.proofs.Common.{nat_le, zero, suc}
 use Rattle.std.specs.Str.{IsUtf8, chars}
 use Rattle.index_model.specs.Values.{Tells}
-use Rattle.doc_fields.specs.declared.starts.Attribute.TheVariants.{Version}
-use Rattle.doc_fields.specs.declared.tags.Tag.TheVariants.{LtfsLabel, Creator, FormatTime, VolumeUuid, Location, Partition}
-use Rattle.doc_fields.specs.declared.tags.Tag.TheVariants.{Partitions, IndexLetter, DataLetter, BlockSize, Compression}
-use Rattle.doc_fields.specs.Written.{end_text, start_text}
-use Rattle.doc_fields.specs.declared.tags.Tag.{Tag}
-use Rattle.doc_fields.specs.declared.starts.Attribute.TheVariants.{Absent}
+use Rattle.ltfs_documents.specs.declared.doc_fields.starts.Attribute.TheVariants.{Version}
+use Rattle.ltfs_documents.specs.declared.doc_fields.tags.Tag.TheVariants.{LtfsLabel, Creator, FormatTime, VolumeUuid, Location, Partition}
+use Rattle.ltfs_documents.specs.declared.doc_fields.tags.Tag.TheVariants.{Partitions, IndexLetter, DataLetter, BlockSize, Compression}
+use Rattle.ltfs_documents.specs.DocFields.Written.{end_text, start_text}
+use Rattle.ltfs_documents.specs.declared.doc_fields.tags.Tag.{Tag}
+use Rattle.ltfs_documents.specs.declared.doc_fields.starts.Attribute.TheVariants.{Absent}
 use Rattle.tape_types.proofs.UuidLemmas.{length-uuid}
 use Rattle.ltfs_label.specs.Canonical.{IsLabel, canonical, element, head, leaf_text}
-use Rattle.doc_elements.specs.Pieces.{letter as sign, number as size, time, truth, uuid, words}
+use Rattle.ltfs_documents.specs.DocElements.Pieces.{letter as sign, number as size, time, truth, uuid, words}
 use Rattle.ltfs_label.specs.Values.{label_of}
 use Rattle.std.specs.Fmt.{decimal}
 use Rattle.std.proofs.lemmas.Fmt.{length-decimal-le}

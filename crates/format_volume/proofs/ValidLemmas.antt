@@ -8,7 +8,7 @@ use Rattle.std.proofs.lemmas.List.Elements.{All-nil, All-cons}
 use Rattle.std.proofs.lemmas.Str.{IsUtf8-from_ascii, chars-IsAscii}
 use Rattle.std.proofs.lemmas.Str.Ascii.{IsAscii-from_all}
 use Rattle.std.specs.Str.{IsUtf8, chars}
-use Rattle.doc_fields.specs.Texts.{is_allowed}
+use Rattle.ltfs_documents.specs.DocFields.Texts.{is_allowed}
 use Rattle.index_model.specs.Extents.{AreFiles, IsFileAt}
 use Rattle.index_model.specs.Keys.{AreKeysApart}
 use Rattle.index_model.specs.Names.{AreNames, AreNamesApart, IsVolumeName}

@@ -3,8 +3,8 @@ use Rattle.std.proofs.Common.{ℕ, ◌+◌, ◌≡◌, ◌≤◌, ◌∙◌, Lis
 use Rattle.std.proofs.Common.{Some, None, refl, sym, ap, subst, arith, append_assoc, append-nil, length-append}
 use Rattle.std.proofs.Common.{map, slice_get, zero, suc, ◌<◌}
 use Rattle.std.specs.Int.{div_ceil}
-use Rattle.index_construct.specs.Blocks.{blocks_of}
-use Rattle.index_construct.proofs.Cuts.{cut_in_one_way}
+use Rattle.tape_layout.specs.IndexConstruct.Blocks.{blocks_of}
+use Rattle.tape_layout.proofs.IndexConstruct.Cuts.{cut_in_one_way}
 use Rattle.tape_types.specs.declared.cartridges.Item.TheVariants.{Block, Mark}
 use Rattle.std.proofs.lemmas.List.{length-map, length-take, map-append, take_all}
 use Rattle.tape_types.specs.declared.cartridges.Cartridge.{Cartridge}

@@ -4,7 +4,7 @@ use Rattle.std.specs.Prelude.{◌&&◌, ◌||◌, if◌then◌else◌, List, len
 use Rattle.std.specs.Int.{is_in_range}
 use Rattle.std.specs.List.{AllByRecursion, list_all}
 use Rattle.std.specs.Str.{IsUtf8, chars}
-use Rattle.doc_fields.specs.Texts.{is_allowed}
+use Rattle.ltfs_documents.specs.DocFields.Texts.{is_allowed}
 use Rattle.index_model.specs.declared.indexes.Policy.{Policy}
 use Rattle.tape_types.specs.Bounds.{longest_file, longest_name}
 use Rattle.tape_types.specs.Names.{has_byte}

@@ -14,7 +14,7 @@ use Rattle.tape_types.specs.declared.moments.Moment.{Moment}
 use Rattle.tape_types.specs.declared.moments.Times.{Times}
 use Rattle.coherency.specs.declared.Coherency.{Coherency}
 use Rattle.coherency.specs.Notes.{note_of}
-use Rattle.index_construct.specs.Blocks.{blocks_of}
+use Rattle.tape_layout.specs.IndexConstruct.Blocks.{blocks_of}
 use Rattle.index_model.specs.Canonical as index_text
 use Rattle.index_model.specs.Values.{IndexValue, facts_of, no_nodes, volume_of}
 use Rattle.index_model.specs.declared.indexes.Index.{Index}

@@ -20,9 +20,9 @@ use crate::refusals::spec_fault;
 use crate::requests::{FormatErr, FormatSpec};
 use crate::texts::Texts;
 use crate::writing::{write_index, write_labels};
-use index_construct::blocks;
 use std::alloc::Global;
 use tape_drive::{Drive, DriveErr};
+use tape_layout::index_construct::blocks;
 use tape_types::{Bytes, Limits, Part, Twin};
 
 /// Makes the cartridge in a drive an empty volume (LTFS 2.4 on labels, index constructs and volume coherency

@@ -3,7 +3,7 @@
 ghost use Rattle.std.specs.Prelude.{◌≡◌, ◌<◌, ◌^◌, length};
 ghost use Rattle.std.specs.List.{AllByRecursion, list_all};
 ghost use Rattle.std.specs.Str.{IsUtf8, chars};
-ghost use Rattle.doc_fields.specs.Texts.{is_allowed};
+ghost use Rattle.ltfs_documents.specs.DocFields.Texts.{is_allowed};
 ghost use Rattle.tape_types.specs.Names.{has_byte};
 ghost use Rattle.format_volume.specs.Refusals.{HasTexts, IsSpec, is_capital};
 ghost use Rattle.format_volume.specs.Refusals.{is_pattern, is_policy, is_volume_name, spec_fault};

@@ -1,7 +1,7 @@
 //! Items are written one behind the other.
 
 ghost use Rattle.std.specs.Prelude.{◌≡◌, ◌≤◌, ◌+◌, ℕ, List, [], ◌∷◌, ◌++◌, length, map, OnOk, Some};
-ghost use Rattle.index_construct.specs.Blocks.{blocks_of};
+ghost use Rattle.tape_layout.specs.IndexConstruct.Blocks.{blocks_of};
 ghost use Rattle.std.specs.Int.{div_ceil};
 ghost use Rattle.tape_drive.specs.Commands.{HasRoom};
 ghost use Rattle.tape_drive.specs.Crashes.{AllowsAll, IsSure};
@@ -14,8 +14,8 @@ ghost use Rattle.tape_types.specs.Counts.{HasCause};
 ghost use Rattle.format_volume.specs.Volumes.{construct};
 ghost use Rattle.format_volume.specs.Writes.{Goes, HasItems, HasPlaces, Writes};
 
-use index_construct::{blocks, piece};
 use tape_drive::{Drive, DriveErr};
+use tape_layout::index_construct::{blocks, piece};
 use tape_types::{Part, Place};
 
 /// Writes a block at the head.

@@ -7,3 +7,4 @@ pub mod Fetches
 pub mod Mounts
 pub mod RangeReads
 pub mod Seekings
+pub mod ViewCommands

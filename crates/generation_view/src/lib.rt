@@ -9,6 +9,7 @@ mod links;
 mod reads;
 mod seeking;
 mod telling;
+pub mod view_commands;
 mod views;
 mod ways;
 

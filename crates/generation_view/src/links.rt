@@ -1,6 +1,7 @@
 //! One index of a chain.
 
-ghost use Rattle.std.specs.Prelude.{◌≡◌, ◌<◌, ◌-◌, ◌++◌, ◌∷◌, ◌↔◌, List, Option, Some, IfNone, IfSome, IsTrue, MatchOption, map, reverse};
+ghost use Rattle.std.specs.Prelude.{◌≡◌, ◌<◌, ◌-◌, ◌++◌, ◌∷◌, ◌↔◌, List, Option, Some, IfNone, IfSome, IsTrue};
+ghost use Rattle.std.specs.Prelude.{MatchOption, map, reverse};
 ghost use Rattle.std.specs.List.{AllByRecursion};
 ghost use Rattle.tape_types.specs.declared.cartridges.Cartridge.{Cartridge};
 ghost use Rattle.content_laws.specs.Readings.{Construct as ConstructOf};

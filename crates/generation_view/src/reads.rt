@@ -1,6 +1,7 @@
 //! What is read through a view.
 
-ghost use Rattle.std.specs.Prelude.{◌≡◌, ◌*◌, ◌<◌, ◌≤◌, ◌-◌, ◌^◌, [], ◌∷◌, length, vec_capacity, IfOk, IfSome, None, OnOk};
+ghost use Rattle.std.specs.Prelude.{◌≡◌, ◌*◌, ◌<◌, ◌≤◌, ◌-◌, ◌^◌, [], ◌∷◌, length, vec_capacity, IfOk, IfSome, None};
+ghost use Rattle.std.specs.Prelude.{OnOk};
 ghost use Rattle.plain_tree.specs.Calls.{answer};
 ghost use Rattle.plain_tree.specs.Paths.{Path};
 ghost use Rattle.plain_tree.specs.Refusals.{refusal_of};

@@ -8,8 +8,8 @@ use Rattle.tape_types.specs.declared.cartridges.Part.TheVariants.{Ip, Dp}
 use Rattle.tape_types.specs.declared.cartridges.Place.{Place}
 use Rattle.tape_types.specs.declared.cartridges.Twin.{Twin}
 use Rattle.session_script.specs.declared.logs.Event.TheVariants.{Served, Worked}
-use Rattle.event_laws.specs.Waiting.{State, Op, Request, waiting_op, same_part, same_place, key, keys, is_least, request_key}
-use Rattle.event_laws.specs.Trail.{fits, asks, takes_request, takes_op}
+use Rattle.head_queue.specs.EventLaws.Waiting.{State, Op, Request, waiting_op, same_part, same_place, key, keys, is_least, request_key}
+use Rattle.head_queue.specs.EventLaws.Trail.{fits, asks, takes_request, takes_op}
 use Rattle.head_queue.specs.Waiting.{Waiting, request}
 use Rattle.head_queue.specs.Keys.{keys_at}
 use Rattle.head_queue.specs.Picks.{IsPicked, IsOpPicked}

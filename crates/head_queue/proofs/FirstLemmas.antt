@@ -9,7 +9,7 @@ use Rattle.tape_types.specs.Cartridges.{other}
 use Rattle.head_queue.specs.declared.entries.QueueEntry.{QueueEntry}
 use Rattle.head_queue.specs.Cuts.{first_of}
 use Rattle.head_queue.specs.Waiting.{Waiting}
-use Rattle.event_laws.specs.Waiting.{as_number, same_part}
+use Rattle.head_queue.specs.EventLaws.Waiting.{as_number, same_part}
 use Rattle.head_queue.specs.Keys.{is_upto, key_within, comes_first, stands_in}
 use Rattle.head_queue.specs.Entries.{entry_at, waiting, waiting_at}
 use Rattle.head_queue.specs.Ranks.{rank, rank_of, part_number, IsFit, Rising}

@@ -11,3 +11,4 @@ pub mod ReadyLemmas
 pub mod PickLemmas
 pub mod AllowedLaw
 pub mod SweepLaw
+pub mod EventLaws

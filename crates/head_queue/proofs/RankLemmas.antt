@@ -1,7 +1,7 @@
 -- The order of ranks, and the order in which the head serves.
 use Rattle.std.proofs.Common.{◌≡◌, ℕ, ◌+◌, ◌*◌, ◌^◌, ◌<◌, ◌≤◌, true, false, nat_lt, List, [], ◌∷◌, ap, arith, inl, inr, ◌⊎◌}
 use Rattle.std.proofs.lemmas.Bool.Decides.{nat_tests}
-use Rattle.event_laws.specs.Waiting.{as_number}
+use Rattle.head_queue.specs.EventLaws.Waiting.{as_number}
 use Rattle.head_queue.specs.Keys.{is_upto, key_within}
 
 -- ---- keys

@@ -5,7 +5,7 @@ use Rattle.std.specs.List.{AllByRecursion}
 use Rattle.tape_types.specs.Cartridges.{next}
 use Rattle.tape_types.specs.declared.cartridges.Part.{Part}
 use Rattle.tape_types.specs.declared.cartridges.Place.{Place}
-use Rattle.event_laws.specs.Waiting.{as_number, same_part, request_key, is_least}
+use Rattle.head_queue.specs.EventLaws.Waiting.{as_number, same_part, request_key, is_least}
 use Rattle.head_queue.specs.Cuts.{Misses, Differ}
 use Rattle.head_queue.specs.Waiting.{Waiting, request}
 use Rattle.head_queue.specs.Keys.{is_upto}

@@ -4,8 +4,8 @@ use Rattle.std.specs.Option.{option_map}
 use Rattle.tape_types.specs.declared.cartridges.Place.{Place}
 use Rattle.tape_types.specs.declared.cartridges.Twin.{Twin}
 use Rattle.session_script.specs.declared.logs.Event.TheVariants.{Served, Worked}
-use Rattle.event_laws.specs.Waiting.{State, Op, waiting_op}
-use Rattle.event_laws.specs.Trail.{fits}
+use Rattle.head_queue.specs.EventLaws.Waiting.{State, Op, waiting_op}
+use Rattle.head_queue.specs.EventLaws.Trail.{fits}
 use Rattle.head_queue.specs.Waiting.{Waiting, request}
 use Rattle.head_queue.specs.Picks.{IsPicked, IsOpPicked}
 

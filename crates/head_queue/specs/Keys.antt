@@ -3,7 +3,7 @@ use Rattle.std.specs.Prelude.{ℕ, ◌+◌, Bool, nat_lt, List, [], ◌∷◌, m
 use Rattle.std.specs.Ordering.{nat_cmp, is_le}
 use Rattle.std.specs.Cmp.Lexicographic.{slice_cmp}
 use Rattle.tape_types.specs.declared.cartridges.Place.{Place}
-use Rattle.event_laws.specs.Waiting.{Request, as_number, key, request_key}
+use Rattle.head_queue.specs.EventLaws.Waiting.{Request, as_number, key, request_key}
 use Rattle.head_queue.specs.Waiting.{Waiting, request}
 
 -- how what stands at a position, and came behind so many, stands to a head at another position of its partition

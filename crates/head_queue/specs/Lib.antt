@@ -15,3 +15,4 @@ pub mod Ready
 pub mod Picks
 pub mod Allowed
 pub mod Sweeps
+pub mod EventLaws

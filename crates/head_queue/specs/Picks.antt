@@ -1,7 +1,7 @@
 -- What the head may serve next.
 use Rattle.std.specs.Prelude.{◌≡◌, ℕ, true, List, Option, Some, map}
 use Rattle.tape_types.specs.declared.cartridges.Place.{Place}
-use Rattle.event_laws.specs.Waiting.{key, request_key, is_least}
+use Rattle.head_queue.specs.EventLaws.Waiting.{key, request_key, is_least}
 use Rattle.head_queue.specs.declared.queues.Pick.{Pick}
 use Rattle.head_queue.specs.declared.queues.Pick.TheVariants.{Op, Request}
 use Rattle.head_queue.specs.Waiting.{Waiting, request}

@@ -1,6 +1,6 @@
 -- The requests that wait, in the order in which they came.
 use Rattle.std.specs.Prelude.{ℕ, nat_le, cond, List, [], ◌∷◌, map}
-use Rattle.event_laws.specs.Waiting.{Request}
+use Rattle.head_queue.specs.EventLaws.Waiting.{Request}
 use Rattle.head_queue.specs.Waiting.{Waiting, request}
 
 -- the requests by arrival, how many have come so far, and how many more may come before the next reserve

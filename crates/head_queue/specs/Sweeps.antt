@@ -3,7 +3,7 @@ use Rattle.std.specs.Prelude.{◌≡◌, ℕ, ◌+◌, ◌-◌, ◌*◌, ◌≤�
 use Rattle.std.specs.List.{AllByRecursion}
 use Rattle.tape_types.specs.Cartridges.{next}
 use Rattle.tape_types.specs.declared.cartridges.Place.{Place}
-use Rattle.event_laws.specs.Waiting.{request_key, is_least}
+use Rattle.head_queue.specs.EventLaws.Waiting.{request_key, is_least}
 use Rattle.head_queue.specs.Cuts.{Differ}
 use Rattle.head_queue.specs.Waiting.{Waiting, request}
 

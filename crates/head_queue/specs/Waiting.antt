@@ -1,7 +1,7 @@
 -- A request that waits for the head.
 use Rattle.std.specs.Prelude.{ℕ}
 use Rattle.tape_types.specs.declared.cartridges.Place.{Place}
-use Rattle.event_laws.specs.Waiting.{Request}
+use Rattle.head_queue.specs.EventLaws.Waiting.{Request}
 
 -- its number in the queue, whose it is, where its block stands, and how many requests came before it
 pub record Waiting : Type 0 where

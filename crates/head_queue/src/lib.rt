@@ -5,6 +5,7 @@
 
 mod chains;
 mod entries;
+pub mod event_laws;
 mod laws;
 mod links;
 mod newest;

@@ -1,5 +1,5 @@
 ghost use Rattle.std.specs.Prelude.{◌≡◌, ℕ, ◌+◌, ◌^◌, ◌<◌, ◌≤◌, ◌∷◌, ◌++◌, [], vec_len, vec_capacity};
-ghost use Rattle.event_laws.specs.Waiting.{as_number, key, same_part};
+ghost use Rattle.head_queue.specs.EventLaws.Waiting.{as_number, key, same_part};
 ghost use Rattle.head_queue.specs.Keys.{is_upto};
 ghost use Rattle.head_queue.specs.Ready.{AreReady};
 

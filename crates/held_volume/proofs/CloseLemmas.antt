@@ -17,8 +17,8 @@ use Rattle.space_laws.specs.Files.{canon, index_at}
 use Rattle.space_laws.specs.Space as space
 use Rattle.space_laws.specs.Space.{Ask, index, is_over, nothing, ops_of, plan_of}
 use Rattle.space_laws.specs.Standing.{Given, Standing, rules, sync_text}
-use Rattle.volume_sync.specs.Frames.{IsCloseOf, IsSync, close_index, sync_index}
-use Rattle.volume_sync.specs.declared.frames.Frame.{Frame}
+use Rattle.held_volume.specs.VolumeSync.Frames.{IsCloseOf, IsSync, close_index, sync_index}
+use Rattle.held_volume.specs.declared.volume_sync.frames.Frame.{Frame}
 use Rattle.held_volume.specs.Applied.{IsUnchanged}
 use Rattle.held_volume.specs.Closed.{IsDpChange, IsDpDocument, IsDpDone, IsIpChange, IsIpDocument, IsIpDone, IsIpEnd, closed_dp}
 use Rattle.held_volume.specs.Stocks.{IsStock, Stocked, stocked, with_index}

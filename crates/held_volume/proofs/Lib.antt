@@ -14,3 +14,4 @@ pub mod Syncing
 pub mod MountLaws
 pub mod TellLaws
 pub mod CloseLemmas
+pub mod VolumeSync

@@ -27,7 +27,7 @@ use Rattle.file_tree.proofs.RefusalLemmas.{no_file_alike, whole_read}
 use Rattle.file_tree.proofs.WriteLemmas.{long_as}
 use Rattle.tape_layout.specs.Plans.{Plan}
 use Rattle.space_laws.specs.Standing.{Given, Standing, uid_at}
-use Rattle.volume_sync.specs.declared.frames.Frame.{Frame}
+use Rattle.held_volume.specs.declared.volume_sync.frames.Frame.{Frame}
 use Rattle.held_volume.specs.Reads.{IsPlanOfAtMost, IsReadPlan, PieceLiesBelow, PieceStandsIn, answer_of, bytes_read, file_at, read_answer}
 use Rattle.held_volume.specs.Stocks.{IsStock, ends_of, stocked}
 use Rattle.held_volume.proofs.Asks.{has_laid}

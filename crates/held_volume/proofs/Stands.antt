@@ -28,7 +28,7 @@ use Rattle.file_tree.specs.Writes.{HoldsBytes}
 use Rattle.file_tree.proofs.BlockLemmas.{blocks_make_the_tree, ends_hold}
 use Rattle.file_tree.proofs.RefusalLemmas.{refusals_alike, whole_read}
 use Rattle.file_tree.proofs.TreeLemmas.{free_too}
-use Rattle.placement.specs.Computed.{chooses_ip}
+use Rattle.tape_layout.specs.PlacementPolicy.Computed.{chooses_ip}
 use Rattle.tape_layout.specs.Admissions.{Admission, IsAdmitted, data_admission}
 use Rattle.tape_layout.specs.Ops.{end_of, with_end}
 use Rattle.tape_layout.specs.Plans.{Plan}
@@ -41,7 +41,7 @@ use Rattle.space_laws.specs.Laws.{admission_of, end_place}
 use Rattle.space_laws.specs.Space as space
 use Rattle.space_laws.specs.Space.{Ask, Rules, Space, blocks, change, index, index_need, is_over, limit_of, need_of, nothing, ops_of, part_for, plan_of, store}
 use Rattle.space_laws.specs.Standing.{Given, Standing, ask_of, ask_unless, ask_unrefused, files_after, rules, uid_at}
-use Rattle.volume_sync.specs.declared.frames.Frame.{Frame}
+use Rattle.held_volume.specs.declared.volume_sync.frames.Frame.{Frame}
 use Rattle.held_volume.specs.Applied.{IsApplied, IsChange, IsDone, IsFull, IsChanging, IsLate, IsNoted, IsTreeStep, IsTried, IsUnchanged, LeavesAll, new_run}
 use Rattle.held_volume.specs.Reads.{IsReadable, IsUnreadable}
 use Rattle.held_volume.specs.Steps.{IsSameTree, IsWrite, file_changed}

@@ -26,7 +26,7 @@ use Rattle.cartridge_meaning.specs.declared.mounted.Mounted.{Mounted}
 use Rattle.space_laws.specs.Files.{laid_found, laid_node, letters, mounted_files, root_name}
 use Rattle.space_laws.specs.Mount.{MountFacts}
 use Rattle.space_laws.specs.Standing.{Given, first_standing}
-use Rattle.volume_sync.specs.declared.frames.Frame.{Frame}
+use Rattle.held_volume.specs.declared.volume_sync.frames.Frame.{Frame}
 use Rattle.held_volume.specs.Mounted.{CanStart, StartsFrom, letters_of, mounted_ends}
 use Rattle.held_volume.specs.Stocks.{IsStock, LieAs, ends_of, frame_of, no_bytes, stocked}
 

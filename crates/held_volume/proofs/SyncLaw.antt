@@ -6,7 +6,7 @@ use Rattle.std.proofs.lemmas.Bool.Decides.{nat_tests}
 use Rattle.std.proofs.lemmas.List.Elements.{All-cons, All-nil}
 use Rattle.std.proofs.lemmas.Str.{IsUtf8-from_ascii, chars-IsAscii}
 use Rattle.std.proofs.lemmas.Str.Ascii.{IsAscii-from_all}
-use Rattle.doc_fields.specs.Texts.{is_allowed}
+use Rattle.ltfs_documents.specs.DocFields.Texts.{is_allowed}
 use Rattle.index_model.specs.Texts.{IsPlainText}
 use Rattle.index_model.specs.Valid.{IsFitVolume, IsSpot}
 use Rattle.plain_tree.specs.Tree as plain

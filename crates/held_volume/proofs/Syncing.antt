@@ -11,7 +11,7 @@ use Rattle.plain_tree.specs.declared.calls.Call.TheVariants as asks
 use Rattle.file_tree.specs.Blocks.{TreeStandsIn}
 use Rattle.file_tree.specs.Tree.{FileTree}
 use Rattle.file_tree.proofs.BlockLemmas.{blocks_make_the_tree}
-use Rattle.index_construct.specs.Blocks.{block_at}
+use Rattle.tape_layout.specs.IndexConstruct.Blocks.{block_at}
 use Rattle.tape_layout.specs.Admissions.{Admission, IsAdmitted, flush_first, index_admission}
 use Rattle.tape_layout.specs.Ops.{construct, end_of, puts}
 use Rattle.tape_layout.specs.Plans.{Plan}
@@ -24,8 +24,8 @@ use Rattle.space_laws.specs.Laws.{admission_of}
 use Rattle.space_laws.specs.Space as space
 use Rattle.space_laws.specs.Space.{Ask, Rules, Space, index, index_need, is_over, limit_of, need_of, nothing, ops_of, part_for, plan_of}
 use Rattle.space_laws.specs.Standing.{Given, Standing, ask_of, rules, sync_text}
-use Rattle.volume_sync.specs.Frames.{IsSync, sync_index, with_sync}
-use Rattle.volume_sync.specs.declared.frames.Frame.{Frame}
+use Rattle.held_volume.specs.VolumeSync.Frames.{IsSync, sync_index, with_sync}
+use Rattle.held_volume.specs.declared.volume_sync.frames.Frame.{Frame}
 use Rattle.held_volume.specs.Applied.{IsChange, IsDone, IsFull, IsUnchanged}
 use Rattle.held_volume.specs.Stocks.{IsStock, Stocked, stocked, with_index}
 use Rattle.held_volume.specs.Syncs.{BringsAtMost, IsDocument}

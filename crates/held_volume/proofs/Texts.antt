@@ -25,8 +25,8 @@ use Rattle.space_laws.specs.Files as space
 use Rattle.space_laws.specs.Files.{Files, canon, index_at, letters, root_name, told_node}
 use Rattle.space_laws.specs.Standing.{Given, Standing, sync_text}
 use Rattle.tape_layout.specs.Plans.{Plan}
-use Rattle.volume_sync.specs.Frames.{close_index, heading_of, letters_of, sync_index}
-use Rattle.volume_sync.specs.declared.frames.Frame.{Frame}
+use Rattle.held_volume.specs.VolumeSync.Frames.{close_index, heading_of, letters_of, sync_index}
+use Rattle.held_volume.specs.declared.volume_sync.frames.Frame.{Frame}
 use Rattle.held_volume.specs.Stocks.{IsStock, LieAs, Stocked}
 
 -- two maps over lists of one length, element by element

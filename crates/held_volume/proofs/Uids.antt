@@ -1,7 +1,7 @@
 -- Which uid stands where once a call is made.
 use Rattle.std.proofs.Common.{◌≡◌, ◌≢◌, ℕ, ◌+◌, Bool, true, false, cond, eqb, List, length, drop, Option, Some, None, sym, ap, ◌∙◌, refl, ⊎_elim}
 use Rattle.std.specs.FinMap as fin
-use Rattle.node_keys.specs.Keys.{KeyMap}
+use Rattle.tape_types.specs.NodeKeys.Keys.{KeyMap}
 use Rattle.tape_types.specs.declared.moments.Moment.{Moment}
 use Rattle.plain_tree.specs.Calls.{after, with_length, with_new, without}
 use Rattle.plain_tree.specs.Cells.{Cell, resized}

@@ -17,7 +17,7 @@ use Rattle.file_tree.specs.Edits.{CanWrite, IsWritten, KeepsVolume, NumbersCome,
 use Rattle.file_tree.specs.Tree.{FileTree, HasExtents, HasLaid, StandsAt, plain_of, whole}
 use Rattle.file_tree.specs.Valid.{IsGood}
 use Rattle.file_tree.proofs.BytesLemmas.{writes_are_writes}
-use Rattle.placement.specs.Computed.{chooses_ip}
+use Rattle.tape_layout.specs.PlacementPolicy.Computed.{chooses_ip}
 use Rattle.index_model.specs.declared.indexes.Policy.{Policy}
 use Rattle.file_tree.proofs.CallLemmas.{can_write}
 use Rattle.std.specs.Int.{div_ceil}

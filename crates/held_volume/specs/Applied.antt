@@ -18,7 +18,7 @@ use Rattle.tape_layout.specs.declared.errors.AdmitErr.{AdmitErr}
 use Rattle.tape_layout.specs.declared.errors.AdmitErr.TheVariants.{Full, NoMemory}
 use Rattle.space_laws.specs.Space.{Ask, change, is_over, limit_of, need_of, nothing, ops_of, part_for, store}
 use Rattle.space_laws.specs.Standing.{Given, Standing, after_done, ask_of, files_after, rules}
-use Rattle.volume_sync.specs.declared.frames.Frame.{Frame}
+use Rattle.held_volume.specs.declared.volume_sync.frames.Frame.{Frame}
 use Rattle.held_volume.specs.Steps.{IsStep}
 use Rattle.held_volume.specs.Stocks.{IsStock, LieAs, Stocked, with_change}
 

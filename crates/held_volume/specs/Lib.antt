@@ -7,3 +7,4 @@ pub mod Synced
 pub mod Reads
 pub mod Syncs
 pub mod Closed
+pub mod VolumeSync

@@ -16,7 +16,7 @@ use Rattle.space_laws.specs.Files.{Files, root_name}
 use Rattle.space_laws.specs.Mount.{MountFacts}
 use Rattle.space_laws.specs.Space.{Space, plan_of}
 use Rattle.space_laws.specs.Standing.{Given, Standing, rules}
-use Rattle.volume_sync.specs.declared.frames.Frame.{Frame}
+use Rattle.held_volume.specs.declared.volume_sync.frames.Frame.{Frame}
 
 -- the tree, what is admitted for the tape, and what the next index stands on
 pub record Stocked : Type 0 where

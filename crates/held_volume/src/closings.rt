@@ -9,11 +9,11 @@ ghost use Rattle.held_volume.specs.Applied.{IsUnchanged};
 ghost use Rattle.held_volume.specs.Closed.{IsDpDocument, IsIpDocument, IsIpEnd, closed_dp};
 ghost use Rattle.held_volume.specs.Stocks.{IsStock, stocked};
 
+use crate::volume_sync::{Frame, admit_close_document, close_document, document};
 use file_tree::Tree;
 use std::alloc::Global;
 use tape_layout::{AdmitErr, Layout};
 use tape_types::{Moment, NoMemory};
-use volume_sync::{Frame, admit_close_document, close_document, document};
 
 /// The texts of the indexes that a close admits, each of them where it is due.
 #[derive(Drop)]

@@ -7,6 +7,7 @@ mod laws;
 mod looks;
 mod stocks;
 mod syncs;
+pub mod volume_sync;
 mod writes;
 
 pub use closings::ClosingTexts;

@@ -9,7 +9,7 @@ ghost use Rattle.tape_layout.specs.Plans.{Plan};
 ghost use Rattle.space_laws.specs.Standing.{Given, Standing};
 ghost use Rattle.held_volume.specs.Reads.{IsPlanOfAtMost, IsReadPlan, IsReadable};
 ghost use Rattle.held_volume.specs.Stocks.{IsStock, stocked};
-ghost use Rattle.volume_sync.specs.declared.frames.Frame.{Frame};
+ghost use Rattle.held_volume.specs.declared.volume_sync.frames.Frame.{Frame};
 
 use extent_map::Piece;
 use file_tree::{Found, Tree};

@@ -22,6 +22,7 @@ use crate::changes::{make, remove, rename, truncate};
 use crate::closings::{ClosingTexts, admit_on_ip, closing_texts};
 use crate::looks::{list, plan, stat};
 use crate::syncs::{admit_due, due_document, most_ops};
+use crate::volume_sync::Frame;
 use crate::writes::write;
 use cartridge_meaning::Mounted;
 use extent_map::Piece;
@@ -31,7 +32,6 @@ use std::alloc::Global;
 use std::marker::Model;
 use tape_layout::{AdmitErr, Layout, Op};
 use tape_types::{Limits, List, Moment, NoMemory, Text};
-use volume_sync::Frame;
 
 /// What is held of a volume while it is served: its tree, what is admitted for the tape and not done yet, and what its
 /// next index stands on.

@@ -11,12 +11,12 @@ ghost use Rattle.held_volume.specs.Closed.{IsDpChange, IsDpDocument};
 ghost use Rattle.held_volume.specs.Stocks.{IsStock, stocked};
 ghost use Rattle.held_volume.specs.Syncs.{IsDocument};
 
+use crate::volume_sync::{Frame, admit_document, document};
 use file_tree::Tree;
 use plain_tree::Call;
 use std::alloc::Global;
 use tape_layout::{AdmitErr, Layout};
 use tape_types::{Moment, NoMemory};
-use volume_sync::{Frame, admit_document, document};
 
 /// The text of the index that a sync at a moment admits, or none where the tree hasn't changed since the last one.
 pub fn due_document(

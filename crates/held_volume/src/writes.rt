@@ -3,7 +3,7 @@
 ghost use Rattle.std.specs.Prelude.{◌≡◌, ◌+◌, ◌≤◌, ℕ, Bool, List, [], None, max, unwrap_or, length, OnErr};
 ghost use Rattle.extent_map.specs.Cells.{Tape};
 ghost use Rattle.extent_map.specs.Laid.{Room};
-ghost use Rattle.placement.specs.Computed.{chooses_ip as chosen_for};
+ghost use Rattle.tape_layout.specs.PlacementPolicy.Computed.{chooses_ip as chosen_for};
 ghost use Rattle.plain_tree.specs.Paths as paths;
 ghost use Rattle.plain_tree.specs.Paths.{Path};
 ghost use Rattle.plain_tree.specs.Refusals.{refusal_of};
@@ -15,13 +15,13 @@ ghost use Rattle.held_volume.specs.Applied.{IsApplied, IsChange, IsUnchanged, Le
 ghost use Rattle.held_volume.specs.Steps.{IsSameTree, IsWrite};
 ghost use Rattle.held_volume.specs.Stocks.{IsStock, stocked};
 
+use crate::volume_sync::Frame;
 use file_tree::{Tree, long_file_at};
 use index_model::Policy;
-use placement::chooses_ip;
 use plain_tree::{Call, Refusal};
+use tape_layout::placement::chooses_ip;
 use tape_layout::{AdmitErr, Layout};
 use tape_types::{Extent, Moment, NoMemory, Text};
-use volume_sync::Frame;
 
 /// Puts bytes into a file from an offset on, unless that is refused: they are admitted for new blocks.
 pub fn write(

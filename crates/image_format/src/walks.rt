@@ -1,5 +1,6 @@
 // A walk over the heads of a partition's records.
-ghost use Rattle.std.specs.Prelude.{◌≡◌, ◌≤◌, ◌+◌, ◌-◌, ◌^◌, ◌/◌, [], min, length, vec_len, vec_capacity, Some, IfErr, OnOk, ◌≢◌};
+ghost use Rattle.std.specs.Prelude.{◌≡◌, ◌≤◌, ◌+◌, ◌-◌, ◌^◌, ◌/◌, [], min, length, vec_len, vec_capacity, Some, IfErr};
+ghost use Rattle.std.specs.Prelude.{OnOk, ◌≢◌};
 ghost use Rattle.byte_disk.specs.Files.{Files, bytes_of};
 ghost use Rattle.image_slots.specs.State.{file_of};
 ghost use Rattle.image_format.specs.Looks.{Looks};

@@ -16,15 +16,15 @@ use Rattle.index_model.specs.declared.nodes.RawExtent.{RawExtent}
 use Rattle.index_model.specs.Archive.{archive, archive_nodes, archive_rest, bin, hello, hi, node, note}
 use Rattle.index_model.specs.Extents.{AreFiles, IsFileAt, ShareOffset}
 use Rattle.base64.specs.GeneralPurpose.{IsBytes}
-use Rattle.node_keys.specs.Keys.{is_key}
-use Rattle.node_keys.specs.declared.xattrs.Xattr.{Xattr}
+use Rattle.tape_types.specs.NodeKeys.Keys.{is_key}
+use Rattle.tape_types.specs.declared.node_keys.xattrs.Xattr.{Xattr}
 use Rattle.index_model.specs.Keys.{AreKeysApart, HasKeyTwice, IsXattr}
 use Rattle.index_model.specs.Names.{AreNames, AreNamesApart, IsNodeName, IsVolumeName}
 use Rattle.index_model.specs.Order.{AreInOrder, IsDirAt, LiesIn}
 use Rattle.index_model.specs.Order.LiesIn.{itself, through}
 use Rattle.index_model.specs.Places.{IsAt}
 use Rattle.index_model.specs.Texts.{IsLetter, IsPlainText}
-use Rattle.doc_fields.specs.Texts.{is_allowed}
+use Rattle.ltfs_documents.specs.DocFields.Texts.{is_allowed}
 use Rattle.index_model.specs.Uids.{AreUids}
 use Rattle.index_model.specs.Valid.{IsFormed, IsValid}
 use Rattle.index_model.proofs.Walks.{EachFrom, each}

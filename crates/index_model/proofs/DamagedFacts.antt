@@ -10,7 +10,7 @@ use Rattle.index_model.specs.declared.nodes.RawExtent.{RawExtent}
 use Rattle.index_model.specs.declared.nodes.Node.{Node}
 use Rattle.index_model.specs.Archive.{archive_nodes, hello, index_of, late_node, long_file, node, node_in_file, one_name, shared_byte, touching, two_notes, with_file, with_keys}
 use Rattle.index_model.specs.Extents.{AreFiles, Covers, HasOverlap, IsBadFile, IsFileAt, IsOutOfBounds, ShareOffset}
-use Rattle.node_keys.specs.declared.xattrs.Xattr.{Xattr}
+use Rattle.tape_types.specs.declared.node_keys.xattrs.Xattr.{Xattr}
 use Rattle.index_model.specs.Keys.{AreKeysApart, HasKeyTwice}
 use Rattle.index_model.specs.Names.{AreNamesApart}
 use Rattle.index_model.specs.Order.{AreInOrder, LiesIn}

@@ -8,3 +8,4 @@ pub mod DamagedFacts
 pub mod OneValue
 pub mod SomeValue
 pub mod Exchanged
+pub mod IndexFaults

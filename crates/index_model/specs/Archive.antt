@@ -3,9 +3,9 @@
 use Rattle.std.specs.Prelude.{ℕ, ◌+◌, ◌^◌, List, [], ◌∷◌, Some, None, true, false, codes}
 use Rattle.tape_types.specs.declared.moments.Moment.{Moment}
 use Rattle.tape_types.specs.declared.moments.Times.{Times}
-use Rattle.node_keys.specs.declared.xattrs.Xattr.{Xattr}
+use Rattle.tape_types.specs.declared.node_keys.xattrs.Xattr.{Xattr}
 use Rattle.index_model.specs.declared.indexes.Index.{Index}
-use Rattle.doc_fields.specs.declared.values.LockState.TheVariants as locks
+use Rattle.ltfs_documents.specs.declared.doc_fields.values.LockState.TheVariants as locks
 use Rattle.index_model.specs.declared.nodes.NodeKind.{NodeKind}
 use Rattle.index_model.specs.declared.nodes.NodeKind.TheVariants as kinds
 use Rattle.index_model.specs.declared.nodes.Node.{Node}

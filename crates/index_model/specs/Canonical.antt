@@ -6,25 +6,25 @@ use Rattle.std.specs.List.{flat_map}
 use Rattle.tape_types.specs.declared.times.Civil.{Civil}
 use Rattle.tape_types.specs.Times.{civil_text}
 use Rattle.tape_types.specs.Uuids.{uuid_text}
-use Rattle.doc_fields.specs.declared.starts.Attribute.{Attribute}
-use Rattle.doc_fields.specs.declared.starts.Attribute.TheVariants.{Absent, Version, Percent}
-use Rattle.doc_fields.specs.declared.tags.Tag.{Tag}
-use Rattle.doc_fields.specs.declared.tags.Tag.TheVariants.{LtfsIndex, Creator, Comment, VolumeUuid, Location, Partition}
-use Rattle.doc_fields.specs.declared.tags.Tag.TheVariants.{GenerationNumber, UpdateTime, PreviousGenerationLocation}
-use Rattle.doc_fields.specs.declared.tags.Tag.TheVariants.{StartBlock, AllowPolicyUpdate, DataPlacementPolicy}
-use Rattle.doc_fields.specs.declared.tags.Tag.TheVariants.{IndexPartitionCriteria, Size, VolumeLockState}
-use Rattle.doc_fields.specs.declared.tags.Tag.TheVariants.{HighestFileUid, Directory, File, FileUid, Name, Length}
-use Rattle.doc_fields.specs.declared.tags.Tag.TheVariants.{CreationTime, ChangeTime, ModifyTime, AccessTime, BackupTime}
-use Rattle.doc_fields.specs.declared.tags.Tag.TheVariants.{ReadOnly, Contents, ExtentInfo, Symlink, Extent, FileOffset}
-use Rattle.doc_fields.specs.declared.tags.Tag.TheVariants.{ByteOffset, ByteCount, ExtendedAttributes, Key, Value}
-use Rattle.doc_fields.specs.declared.tags.Tag.TheVariants as tags
-use Rattle.doc_fields.specs.Values.{lock_word}
-use Rattle.doc_fields.specs.Written.{start_text, end_text, bool_text, escape}
-use Rattle.ltfs_text.specs.declared.names.NameText.{NameText}
-use Rattle.ltfs_text.specs.Names.{written}
-use Rattle.node_keys.specs.declared.xattrs.Xattr.{Xattr}
-use Rattle.doc_elements.specs.Written.{bytes_text, bytes_type}
-pub use Rattle.doc_elements.specs.Written.{element, encoding, head}
+use Rattle.ltfs_documents.specs.declared.doc_fields.starts.Attribute.{Attribute}
+use Rattle.ltfs_documents.specs.declared.doc_fields.starts.Attribute.TheVariants.{Absent, Version, Percent}
+use Rattle.ltfs_documents.specs.declared.doc_fields.tags.Tag.{Tag}
+use Rattle.ltfs_documents.specs.declared.doc_fields.tags.Tag.TheVariants.{LtfsIndex, Creator, Comment, VolumeUuid, Location, Partition}
+use Rattle.ltfs_documents.specs.declared.doc_fields.tags.Tag.TheVariants.{GenerationNumber, UpdateTime, PreviousGenerationLocation}
+use Rattle.ltfs_documents.specs.declared.doc_fields.tags.Tag.TheVariants.{StartBlock, AllowPolicyUpdate, DataPlacementPolicy}
+use Rattle.ltfs_documents.specs.declared.doc_fields.tags.Tag.TheVariants.{IndexPartitionCriteria, Size, VolumeLockState}
+use Rattle.ltfs_documents.specs.declared.doc_fields.tags.Tag.TheVariants.{HighestFileUid, Directory, File, FileUid, Name, Length}
+use Rattle.ltfs_documents.specs.declared.doc_fields.tags.Tag.TheVariants.{CreationTime, ChangeTime, ModifyTime, AccessTime, BackupTime}
+use Rattle.ltfs_documents.specs.declared.doc_fields.tags.Tag.TheVariants.{ReadOnly, Contents, ExtentInfo, Symlink, Extent, FileOffset}
+use Rattle.ltfs_documents.specs.declared.doc_fields.tags.Tag.TheVariants.{ByteOffset, ByteCount, ExtendedAttributes, Key, Value}
+use Rattle.ltfs_documents.specs.declared.doc_fields.tags.Tag.TheVariants as tags
+use Rattle.ltfs_documents.specs.DocFields.Values.{lock_word}
+use Rattle.ltfs_documents.specs.DocFields.Written.{start_text, end_text, bool_text, escape}
+use Rattle.ltfs_documents.specs.declared.ltfs_text.names.NameText.{NameText}
+use Rattle.ltfs_documents.specs.LtfsText.Names.{written}
+use Rattle.tape_types.specs.declared.node_keys.xattrs.Xattr.{Xattr}
+use Rattle.ltfs_documents.specs.DocElements.Written.{bytes_text, bytes_type}
+pub use Rattle.ltfs_documents.specs.DocElements.Written.{element, encoding, head}
 use Rattle.index_model.specs.declared.indexes.Policy.{Policy}
 use Rattle.index_model.specs.declared.indexes.Spot.{Spot}
 use Rattle.index_model.specs.declared.nodes.RawExtent.{RawExtent}

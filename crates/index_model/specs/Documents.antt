@@ -1,9 +1,9 @@
 -- How a refusal of a document is told, and a fault of a whole index.
 use Rattle.std.specs.Prelude.{◌≡◌, ℕ, List}
-use Rattle.doc_elements.specs.declared.errors.PieceErr.{PieceErr}
-use Rattle.doc_elements.specs.declared.errors.PieceErr.TheVariants as pieces
-use Rattle.doc_elements.specs.declared.schema.Container.TheVariants as place
-use Rattle.doc_elements.specs.Documents.{StopsAt}
+use Rattle.ltfs_documents.specs.declared.doc_elements.errors.PieceErr.{PieceErr}
+use Rattle.ltfs_documents.specs.declared.doc_elements.errors.PieceErr.TheVariants as pieces
+use Rattle.ltfs_documents.specs.declared.doc_elements.schema.Container.TheVariants as place
+use Rattle.ltfs_documents.specs.DocElements.Documents.{StopsAt}
 use Rattle.index_model.specs.declared.faults.Fault.{Fault}
 use Rattle.index_model.specs.declared.faults.Fault.TheVariants as faults
 use Rattle.index_model.specs.declared.errors.IndexErr.{IndexErr}

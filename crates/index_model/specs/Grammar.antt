@@ -2,27 +2,27 @@
 use Rattle.std.specs.Prelude.{◌≡◌, ◌⊎◌, ◌≤◌, ℕ, List, [], ◌∷◌, Option, Some, None, ◌==◌, if◌then◌else◌}
 use Rattle.std.specs.Option.{option_map}
 use Rattle.tape_types.specs.Bounds.{most_nodes}
-use Rattle.doc_fields.specs.declared.tags.Tag.{Tag}
-use Rattle.doc_fields.specs.declared.tags.Tag.TheVariants.{Creator, Comment, VolumeUuid, Partition, GenerationNumber}
-use Rattle.doc_fields.specs.declared.tags.Tag.TheVariants.{UpdateTime, StartBlock, AllowPolicyUpdate, Size}
-use Rattle.doc_fields.specs.declared.tags.Tag.TheVariants.{VolumeLockState, HighestFileUid, FileUid, Name, Length}
-use Rattle.doc_fields.specs.declared.tags.Tag.TheVariants.{CreationTime, ChangeTime, ModifyTime, AccessTime, BackupTime}
-use Rattle.doc_fields.specs.declared.tags.Tag.TheVariants.{ReadOnly, Symlink, FileOffset, ByteOffset, ByteCount}
-use Rattle.doc_fields.specs.declared.tags.Tag.TheVariants.{Key, Value}
-use Rattle.doc_elements.specs.Children.{code}
-use Rattle.node_keys.specs.declared.xattrs.Xattr.{Xattr}
+use Rattle.ltfs_documents.specs.declared.doc_fields.tags.Tag.{Tag}
+use Rattle.ltfs_documents.specs.declared.doc_fields.tags.Tag.TheVariants.{Creator, Comment, VolumeUuid, Partition, GenerationNumber}
+use Rattle.ltfs_documents.specs.declared.doc_fields.tags.Tag.TheVariants.{UpdateTime, StartBlock, AllowPolicyUpdate, Size}
+use Rattle.ltfs_documents.specs.declared.doc_fields.tags.Tag.TheVariants.{VolumeLockState, HighestFileUid, FileUid, Name, Length}
+use Rattle.ltfs_documents.specs.declared.doc_fields.tags.Tag.TheVariants.{CreationTime, ChangeTime, ModifyTime, AccessTime, BackupTime}
+use Rattle.ltfs_documents.specs.declared.doc_fields.tags.Tag.TheVariants.{ReadOnly, Symlink, FileOffset, ByteOffset, ByteCount}
+use Rattle.ltfs_documents.specs.declared.doc_fields.tags.Tag.TheVariants.{Key, Value}
+use Rattle.ltfs_documents.specs.DocElements.Children.{code}
+use Rattle.tape_types.specs.declared.node_keys.xattrs.Xattr.{Xattr}
 use Rattle.index_model.specs.declared.indexes.Index.{Index}
 use Rattle.index_model.specs.declared.indexes.Policy.{Policy}
 use Rattle.index_model.specs.declared.indexes.Spot.{Spot}
 use Rattle.index_model.specs.declared.nodes.RawExtent.{RawExtent}
-use Rattle.doc_elements.specs.declared.schema.Container.{Container}
-use Rattle.doc_elements.specs.declared.schema.Container.TheVariants as place
+use Rattle.ltfs_documents.specs.declared.doc_elements.schema.Container.{Container}
+use Rattle.ltfs_documents.specs.declared.doc_elements.schema.Container.TheVariants as place
 use Rattle.index_model.specs.declared.errors.IndexErr.{IndexErr}
 use Rattle.index_model.specs.declared.faults.Fault.{Fault}
-use Rattle.doc_elements.specs.Schema.{place_code}
+use Rattle.ltfs_documents.specs.DocElements.Schema.{place_code}
 use Rattle.index_model.specs.Values.{NodeFacts, Nodes, no_nodes, directory, file, link, VolumeFacts, IndexValue, Tells}
-use Rattle.doc_elements.specs.Pieces.{Val, words, time, uuid, letter, number, truth, lock, bytes}
-use Rattle.doc_elements.specs.Elements.{Item, plain, bare, nested, Items, no_items, item, DocumentText, node_count}
+use Rattle.ltfs_documents.specs.DocElements.Pieces.{Val, words, time, uuid, letter, number, truth, lock, bytes}
+use Rattle.ltfs_documents.specs.DocElements.Elements.{Item, plain, bare, nested, Items, no_items, item, DocumentText, node_count}
 use Rattle.index_model.specs.Documents.{StopsAs, fault_told}
 use Rattle.index_model.specs.Refusals.{IsToldOf}
 use Rattle.index_model.specs.Valid.{Agrees}

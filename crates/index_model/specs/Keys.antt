@@ -2,8 +2,8 @@
 use Rattle.std.specs.Prelude.{◌≡◌, ℕ, ◌<◌, List, true}
 use Rattle.std.specs.Str.{IsUtf8}
 use Rattle.base64.specs.GeneralPurpose.{IsBytes}
-use Rattle.node_keys.specs.declared.xattrs.Xattr.{Xattr}
-use Rattle.node_keys.specs.Keys.{is_key}
+use Rattle.tape_types.specs.declared.node_keys.xattrs.Xattr.{Xattr}
+use Rattle.tape_types.specs.NodeKeys.Keys.{is_key}
 use Rattle.index_model.specs.declared.nodes.Node.{Node}
 use Rattle.index_model.specs.Places.{IsAt}
 

@@ -14,3 +14,4 @@ pub mod Cuts
 pub mod Documents
 pub mod Grammar
 pub mod Telling
+pub mod IndexFaults

@@ -1,6 +1,6 @@
 -- How a refusal is told: its kind, and the place, the element or the UID that it has.
 use Rattle.std.specs.Prelude.{ℕ, List, ◌++◌, codes, decimal}
-use Rattle.doc_fields.specs.Tags.{spelled}
+use Rattle.ltfs_documents.specs.DocFields.Tags.{spelled}
 use Rattle.index_model.specs.declared.errors.IndexErr.{IndexErr}
 use Rattle.index_model.specs.declared.errors.IndexErr.TheVariants as errors
 

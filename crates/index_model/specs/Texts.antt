@@ -2,7 +2,7 @@
 use Rattle.std.specs.Prelude.{◌≡◌, ◌≤◌, ℕ, List, true}
 use Rattle.std.specs.List.{list_all}
 use Rattle.std.specs.Str.{IsUtf8, chars}
-use Rattle.doc_fields.specs.Texts.{is_allowed}
+use Rattle.ltfs_documents.specs.DocFields.Texts.{is_allowed}
 
 -- a text of characters that XML allows
 pub record IsPlainText (text : List ℕ) : Type 0 where

@@ -1,11 +1,11 @@
 -- What the document of an index tells: facts of the volume, and its directories, files and links as they stand in one
 -- another (LTFS 2.4 on the index). Moments are given as a date and a time of day, texts by their bytes in UTF-8.
 use Rattle.std.specs.Prelude.{◌≡◌, ℕ, ◌+◌, List, [], ◌∷◌, ◌++◌, Bool, Option, map}
-use Rattle.doc_fields.specs.declared.values.LockState.{LockState}
+use Rattle.ltfs_documents.specs.declared.doc_fields.values.LockState.{LockState}
 use Rattle.tape_types.specs.declared.moments.Times.{Times}
 use Rattle.tape_types.specs.declared.times.Civil.{Civil}
 use Rattle.tape_types.specs.Times.{civil_of}
-use Rattle.node_keys.specs.declared.xattrs.Xattr.{Xattr}
+use Rattle.tape_types.specs.declared.node_keys.xattrs.Xattr.{Xattr}
 use Rattle.index_model.specs.declared.indexes.Index.{Index}
 use Rattle.index_model.specs.declared.indexes.Policy.{Policy}
 use Rattle.index_model.specs.declared.indexes.Spot.{Spot}

@@ -2,8 +2,8 @@ ghost use Rattle.std.specs.Prelude.{◌≡◌};
 ghost use Rattle.index_model.specs.Documents.{fault_told, refusal_told};
 
 use crate::faults::Fault;
-use doc_elements::PieceErr;
-use doc_fields::Tag;
+use ltfs_documents::doc_elements::PieceErr;
+use ltfs_documents::doc_fields::Tag;
 
 /// Why a text is no index. A number in brackets of `Syntax`, `Unknown`, `Twice`, `Number` and
 /// `Name` is the place in the text, in bytes from its beginning.

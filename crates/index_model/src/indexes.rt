@@ -1,6 +1,6 @@
 use crate::nodes::Node;
 use crate::text_list::TextList;
-use doc_fields::LockState;
+use ltfs_documents::doc_fields::LockState;
 use tape_types::{List, Moment, Text};
 
 /// Where an index stands on tape: the position of the first block of its document (LTFS 2.4 on

@@ -5,6 +5,7 @@
 mod errors;
 mod examples;
 mod faults;
+pub mod index_faults;
 mod indexes;
 mod laws;
 mod nodes;

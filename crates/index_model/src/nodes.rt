@@ -1,4 +1,4 @@
-use node_keys::Xattr;
+use tape_types::node_keys::Xattr;
 use tape_types::{List, Text, Times};
 
 /// A run of a file's bytes on tape, as an index tells it (LTFS 2.4 on data extents). It begins

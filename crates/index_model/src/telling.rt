@@ -1,9 +1,9 @@
 ghost use Rattle.std.specs.Prelude.{◌≡◌, ◌++◌, codes, decimal, IfOk, string_bytes};
-ghost use Rattle.doc_fields.specs.Tags.{spelled};
+ghost use Rattle.ltfs_documents.specs.DocFields.Tags.{spelled};
 ghost use Rattle.index_model.specs.Telling.{refusal_text};
 
 use crate::errors::IndexErr;
-use doc_fields::{Tag, name_of};
+use ltfs_documents::doc_fields::{Tag, name_of};
 use std::alloc::Global;
 use tape_types::{Bytes, NoMemory};
 

@@ -1,15 +1,15 @@
 -- A whole document spells what its pieces tell.
 use Rattle.std.proofs.Common.{◌≡◌, ℕ, List, [], ◌∷◌, Bool, true, false, ◌==◌, ◌&&◌, not, length, Some, None, IsUtf8, refl, sym, ap, subst, ◌∙◌}
-use Rattle.doc_fields.specs.declared.tags.Tag.{Tag}
-use Rattle.doc_fields.specs.declared.tags.Tag.TheVariants.{Directory}
-use Rattle.doc_elements.specs.Children.{code, member}
+use Rattle.ltfs_documents.specs.declared.doc_fields.tags.Tag.{Tag}
+use Rattle.ltfs_documents.specs.declared.doc_fields.tags.Tag.TheVariants.{Directory}
+use Rattle.ltfs_documents.specs.DocElements.Children.{code, member}
 use Rattle.index_model.specs.declared.nodes.NodeKind.TheVariants as kinds
-use Rattle.doc_elements.specs.declared.schema.Container.TheVariants as place
-use Rattle.doc_elements.specs.declared.schema.Child.{Child}
-use Rattle.doc_elements.specs.declared.schema.Child.TheVariants as child
-use Rattle.doc_elements.specs.Schema.{rule, required}
+use Rattle.ltfs_documents.specs.declared.doc_elements.schema.Container.TheVariants as place
+use Rattle.ltfs_documents.specs.declared.doc_elements.schema.Child.{Child}
+use Rattle.ltfs_documents.specs.declared.doc_elements.schema.Child.TheVariants as child
+use Rattle.ltfs_documents.specs.DocElements.Schema.{rule, required}
 use Rattle.index_model.specs.Values.{NodeFacts, Nodes, value_in, listed, IndexValue, all_nodes}
-use Rattle.doc_elements.specs.Elements.{Item, plain, bare, nested, Items, no_items, item, item_tag}
+use Rattle.ltfs_documents.specs.DocElements.Elements.{Item, plain, bare, nested, Items, no_items, item, item_tag}
 use Rattle.index_model.specs.Grammar.{or_else, own_children, inside, TellsFacts, TellsContents, TellsVolume, Spells}
 use Rattle.index_read.specs.Told.{State, Tell, blank, blank_spot, outermost, begun, item_told, items_told}
 use Rattle.index_read.specs.Walks.{IsWhole}
@@ -18,7 +18,7 @@ use Rattle.index_read.proofs.Fits.{Fits, FitsItem, same_tag, missing_member, all
 use Rattle.index_read.proofs.Volume.{with_here, here_told, back_told}
 use Rattle.index_read.proofs.Within.{policy_is, volume_is}
 use Rattle.index_read.proofs.Tells.{volume_tells}
-use Rattle.doc_elements.proofs.Trees.{elements_of}
+use Rattle.ltfs_documents.proofs.DocElements.Trees.{elements_of}
 use Rattle.index_read.proofs.Trees.{items_tell, tell_same}
 
 -- ---- the root directory among the children of an index

@@ -8,10 +8,10 @@ use Rattle.base64.specs.Tables.{is_inverse}
 use Rattle.base64.proofs.Canonical.{IsScanned-scan}
 use Rattle.base64.proofs.EngineFacts.{decode_of_bytes}
 use Rattle.base64.proofs.Tables.{are_tables_inverse, IsDecodeTable_from}
-use Rattle.doc_fields.specs.Space.{is_space}
-use Rattle.doc_elements.specs.Pieces.{from_base64, without_space}
-use Rattle.doc_elements.proofs.Base64Blocks.{dropped, groups, joined, neither, outcome, three}
-use Rattle.doc_elements.proofs.Base64Lemmas.{cons_bytes, decoded, kept_bytes}
+use Rattle.ltfs_documents.specs.DocFields.Space.{is_space}
+use Rattle.ltfs_documents.specs.DocElements.Pieces.{from_base64, without_space}
+use Rattle.ltfs_documents.proofs.DocElements.Base64Blocks.{dropped, groups, joined, neither, outcome, three}
+use Rattle.ltfs_documents.proofs.DocElements.Base64Lemmas.{cons_bytes, decoded, kept_bytes}
 
 none_bytes : IsBytes []
 none_bytes i = omega arith

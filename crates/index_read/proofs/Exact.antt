@@ -3,12 +3,12 @@ use Rattle.std.proofs.Common.{◌≡◌, ℕ, List, [], ◌∷◌, ◌++◌, Som
 use Rattle.index_model.specs.declared.indexes.Index.{Index}
 use Rattle.index_model.specs.declared.nodes.NodeKind.TheVariants as kinds
 use Rattle.index_model.specs.declared.errors.IndexErr.{IndexErr}
-use Rattle.doc_elements.specs.declared.schema.Container.TheVariants as place
+use Rattle.ltfs_documents.specs.declared.doc_elements.schema.Container.TheVariants as place
 use Rattle.index_model.specs.Values.{value_in, listed, IndexValue, all_nodes, Tells}
-use Rattle.doc_elements.specs.Pieces.{closes}
+use Rattle.ltfs_documents.specs.DocElements.Pieces.{closes}
 use Rattle.index_model.specs.Documents.{StopsAs, fault_told, refusal_told}
 use Rattle.index_model.specs.Grammar.{TellsFacts, TellsContents, Spells, IndexText, Stops}
-use Rattle.doc_elements.specs.Elements.{all_pieces}
+use Rattle.ltfs_documents.specs.DocElements.Elements.{all_pieces}
 use Rattle.index_model.specs.Refusals.{IsToldOf}
 use Rattle.index_model.specs.Valid.{Agrees}
 use Rattle.index_model.proofs.FaultLaws.{one_fault, agrees_no_fault}
@@ -17,11 +17,11 @@ use Rattle.index_read.specs.Walks.{IsWhole}
 use Rattle.index_read.proofs.Fits.{all_fit}
 use Rattle.index_read.proofs.Within.{volume_is, volume_told}
 use Rattle.index_read.proofs.Tells.{volume_tells, one_volume}
-use Rattle.doc_elements.proofs.Trees.{accepted}
+use Rattle.ltfs_documents.proofs.DocElements.Trees.{accepted}
 use Rattle.index_read.proofs.Trees.{items_tell, tell_same}
 use Rattle.index_read.proofs.Nodes.{one_contents}
 use Rattle.index_read.proofs.Facts.{one_facts}
-use Rattle.doc_elements.proofs.Once.{never_both as pieces_go, one_document, one_stop}
+use Rattle.ltfs_documents.proofs.DocElements.Once.{never_both as pieces_go, one_document, one_stop}
 use Rattle.index_read.proofs.Same.{tells_one}
 use Rattle.index_read.proofs.Assembled.{root_told}
 

@@ -1,19 +1,19 @@
 -- What the children of a node tell of it: the facts that each node has.
 use Rattle.std.proofs.Common.{◌≡◌, ℕ, List, [], ◌∷◌, ◌++◌, Bool, true, false, ◌==◌, ◌&&◌, not, Option, Some, None, if◌then◌else◌, refl, sym, ap, subst, ◌∙◌}
 use Rattle.std.proofs.lemmas.Bool.{eqb-true, or_right}
-use Rattle.node_keys.specs.declared.xattrs.Xattr.{Xattr}
-use Rattle.doc_fields.specs.declared.tags.Tag.{Tag}
-use Rattle.doc_fields.specs.declared.tags.Tag.TheVariants.{FileUid, Name, CreationTime, ChangeTime, ModifyTime, AccessTime, BackupTime, ReadOnly}
-use Rattle.doc_elements.specs.Children.{code, member}
-use Rattle.doc_elements.specs.declared.schema.Container.{Container}
-use Rattle.doc_elements.specs.declared.schema.Container.TheVariants as place
-use Rattle.doc_elements.specs.declared.schema.Form.TheVariants as form
-use Rattle.doc_elements.specs.declared.schema.Child.{Child}
-use Rattle.doc_elements.specs.declared.schema.Child.TheVariants as child
-use Rattle.doc_elements.specs.Schema.{rule, tag_of, may_repeat, place_code}
+use Rattle.tape_types.specs.declared.node_keys.xattrs.Xattr.{Xattr}
+use Rattle.ltfs_documents.specs.declared.doc_fields.tags.Tag.{Tag}
+use Rattle.ltfs_documents.specs.declared.doc_fields.tags.Tag.TheVariants.{FileUid, Name, CreationTime, ChangeTime, ModifyTime, AccessTime, BackupTime, ReadOnly}
+use Rattle.ltfs_documents.specs.DocElements.Children.{code, member}
+use Rattle.ltfs_documents.specs.declared.doc_elements.schema.Container.{Container}
+use Rattle.ltfs_documents.specs.declared.doc_elements.schema.Container.TheVariants as place
+use Rattle.ltfs_documents.specs.declared.doc_elements.schema.Form.TheVariants as form
+use Rattle.ltfs_documents.specs.declared.doc_elements.schema.Child.{Child}
+use Rattle.ltfs_documents.specs.declared.doc_elements.schema.Child.TheVariants as child
+use Rattle.ltfs_documents.specs.DocElements.Schema.{rule, tag_of, may_repeat, place_code}
 use Rattle.index_model.specs.Values.{NodeFacts}
-use Rattle.doc_elements.specs.Pieces.{Val, words, time, number, truth}
-use Rattle.doc_elements.specs.Elements.{Item, plain, bare, nested, Items, no_items, item, item_tag, MayFollow}
+use Rattle.ltfs_documents.specs.DocElements.Pieces.{Val, words, time, number, truth}
+use Rattle.ltfs_documents.specs.DocElements.Elements.{Item, plain, bare, nested, Items, no_items, item, item_tag, MayFollow}
 use Rattle.index_model.specs.Grammar.{or_else, own, told, own_children, inside, TellsFacts}
 use Rattle.index_read.specs.Told.{words_or, time_or, number_or, truth_or, facts_with, blank_times}
 use Rattle.index_read.proofs.Fits.{FitsItem, Fits, same_tag, must_tell, told_form}

@@ -1,17 +1,17 @@
 -- What the children of a file tell: its extents, its length or the text of a link, and its facts.
 use Rattle.std.proofs.Common.{◌≡◌, ◌⊎◌, ℕ, ◌+◌, List, [], ◌∷◌, ◌++◌, length, Bool, true, false, ◌==◌, ◌||◌, Option, Some, None, if◌then◌else◌, inl, inr, refl, sym, ap, ◌∙◌}
 use Rattle.std.proofs.lemmas.List.{append-nil}
-use Rattle.doc_fields.specs.declared.tags.Tag.{Tag}
-use Rattle.doc_fields.specs.declared.tags.Tag.TheVariants.{Length, Symlink, ExtentInfo, ExtendedAttributes}
-use Rattle.doc_elements.specs.Children.{code, member}
+use Rattle.ltfs_documents.specs.declared.doc_fields.tags.Tag.{Tag}
+use Rattle.ltfs_documents.specs.declared.doc_fields.tags.Tag.TheVariants.{Length, Symlink, ExtentInfo, ExtendedAttributes}
+use Rattle.ltfs_documents.specs.DocElements.Children.{code, member}
 use Rattle.index_model.specs.declared.nodes.NodeKind.{NodeKind}
 use Rattle.index_model.specs.declared.nodes.NodeKind.TheVariants as kinds
 use Rattle.index_model.specs.declared.nodes.RawExtent.{RawExtent}
-use Rattle.doc_elements.specs.declared.schema.Container.TheVariants as place
-use Rattle.doc_elements.specs.declared.schema.Form.TheVariants as form
+use Rattle.ltfs_documents.specs.declared.doc_elements.schema.Container.TheVariants as place
+use Rattle.ltfs_documents.specs.declared.doc_elements.schema.Form.TheVariants as form
 use Rattle.index_model.specs.Values.{NodeFacts, NodeValue, Nodes, file, link, value_in, listed}
-use Rattle.doc_elements.specs.Pieces.{Val, words}
-use Rattle.doc_elements.specs.Elements.{Item, plain, bare, nested, Items, no_items, item}
+use Rattle.ltfs_documents.specs.DocElements.Pieces.{Val, words}
+use Rattle.ltfs_documents.specs.DocElements.Elements.{Item, plain, bare, nested, Items, no_items, item}
 use Rattle.index_model.specs.Grammar.{or_else, own, told, inside, TellsFile, TellsLink}
 use Rattle.index_read.specs.Told.{State, number_or, link_or, facts_with, kind_with, node_with, changed, item_told, items_told}
 use Rattle.index_read.proofs.Fits.{Fits, must_tell, own_form, told_form}

@@ -2,29 +2,29 @@
 use Rattle.std.proofs.Common.{◌≡◌, ℕ, List, [], ◌∷◌, Bool, true, false, cond, ◌==◌, ◌||◌, Option, Some, None, Result, Ok, if◌then◌else◌, refl, sym, ap, subst, ◌∙◌}
 use Rattle.std.proofs.lemmas.Bool.{eqb-true}
 use Rattle.tape_types.specs.declared.times.Civil.{Civil}
-use Rattle.doc_fields.specs.declared.starts.Start.{Start}
-use Rattle.doc_fields.specs.declared.tags.Tag.{Tag}
-use Rattle.doc_fields.specs.declared.tags.Tag.TheVariants.{LtfsLabel}
-use Rattle.doc_fields.specs.declared.values.LockState.{LockState}
-use Rattle.doc_fields.specs.Reading.{Read}
-use Rattle.doc_fields.specs.Numbers.{number_at}
-use Rattle.doc_fields.specs.EndTag.{end_at}
-use Rattle.doc_fields.specs.Space.{space_end}
-use Rattle.doc_fields.specs.Tags.{all_tags}
-use Rattle.doc_fields.specs.Texts.{text_at}
-use Rattle.doc_fields.specs.Values.{bool_at, letter_at, lock_at, time_at, uuid_at}
-use Rattle.doc_elements.specs.Children.{code, member, first_missing}
-use Rattle.doc_elements.specs.declared.errors.PieceErr.{PieceErr}
-use Rattle.doc_elements.specs.declared.schema.Container.{Container}
-use Rattle.doc_elements.specs.declared.schema.Form.{Form}
-use Rattle.doc_elements.specs.declared.schema.Form.TheVariants as form
-use Rattle.doc_elements.specs.declared.schema.Child.{Child}
-use Rattle.doc_elements.specs.declared.schema.Child.TheVariants as child
-use Rattle.doc_elements.specs.Schema.{rule, required, tag_of}
-use Rattle.doc_elements.specs.Pieces.{Val, words, time, uuid, letter, number, truth, lock, bytes, ◌>>=◌, lift, spaced, in_range, number_in, name_in, name_of, named, bytes_in, bytes_of, value_in, empty_value, leaf_at}
-use Rattle.doc_elements.specs.Elements.{Item, plain, bare, nested, Items, no_items, item, item_tag, Spelled, AllSpelled, MayFollow}
+use Rattle.ltfs_documents.specs.declared.doc_fields.starts.Start.{Start}
+use Rattle.ltfs_documents.specs.declared.doc_fields.tags.Tag.{Tag}
+use Rattle.ltfs_documents.specs.declared.doc_fields.tags.Tag.TheVariants.{LtfsLabel}
+use Rattle.ltfs_documents.specs.declared.doc_fields.values.LockState.{LockState}
+use Rattle.ltfs_documents.specs.DocFields.Reading.{Read}
+use Rattle.ltfs_documents.specs.DocFields.Numbers.{number_at}
+use Rattle.ltfs_documents.specs.DocFields.EndTag.{end_at}
+use Rattle.ltfs_documents.specs.DocFields.Space.{space_end}
+use Rattle.ltfs_documents.specs.DocFields.Tags.{all_tags}
+use Rattle.ltfs_documents.specs.DocFields.Texts.{text_at}
+use Rattle.ltfs_documents.specs.DocFields.Values.{bool_at, letter_at, lock_at, time_at, uuid_at}
+use Rattle.ltfs_documents.specs.DocElements.Children.{code, member, first_missing}
+use Rattle.ltfs_documents.specs.declared.doc_elements.errors.PieceErr.{PieceErr}
+use Rattle.ltfs_documents.specs.declared.doc_elements.schema.Container.{Container}
+use Rattle.ltfs_documents.specs.declared.doc_elements.schema.Form.{Form}
+use Rattle.ltfs_documents.specs.declared.doc_elements.schema.Form.TheVariants as form
+use Rattle.ltfs_documents.specs.declared.doc_elements.schema.Child.{Child}
+use Rattle.ltfs_documents.specs.declared.doc_elements.schema.Child.TheVariants as child
+use Rattle.ltfs_documents.specs.DocElements.Schema.{rule, required, tag_of}
+use Rattle.ltfs_documents.specs.DocElements.Pieces.{Val, words, time, uuid, letter, number, truth, lock, bytes, ◌>>=◌, lift, spaced, in_range, number_in, name_in, name_of, named, bytes_in, bytes_of, value_in, empty_value, leaf_at}
+use Rattle.ltfs_documents.specs.DocElements.Elements.{Item, plain, bare, nested, Items, no_items, item, item_tag, Spelled, AllSpelled, MayFollow}
 use Rattle.index_model.specs.Grammar.{or_else, own, told}
-use Rattle.doc_elements.proofs.Inversion.{bind_ok}
+use Rattle.ltfs_documents.proofs.DocElements.Inversion.{bind_ok}
 
 -- the value is of the form's kind
 abbrev pub HasForm : Form → Val → Type 0

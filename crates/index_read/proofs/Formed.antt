@@ -3,23 +3,23 @@ use Rattle.std.proofs.Common.{◌≡◌, ◌⊎◌, inl, inr, ℕ, ◌+◌, ◌<
 use Rattle.std.specs.Prelude.{⊤}
 use Rattle.std.specs.List.{AllByRecursion}
 use Rattle.std.specs.Option.{option_map}
-use Rattle.node_keys.specs.declared.xattrs.Xattr.{Xattr}
-use Rattle.doc_fields.specs.declared.tags.Tag.TheVariants.{Creator, Comment, VolumeUuid, GenerationNumber, Partition, StartBlock, Size, Name, Symlink, FileOffset, ByteOffset, ByteCount, Key, Value}
+use Rattle.tape_types.specs.declared.node_keys.xattrs.Xattr.{Xattr}
+use Rattle.ltfs_documents.specs.declared.doc_fields.tags.Tag.TheVariants.{Creator, Comment, VolumeUuid, GenerationNumber, Partition, StartBlock, Size, Name, Symlink, FileOffset, ByteOffset, ByteCount, Key, Value}
 use Rattle.index_model.specs.declared.indexes.Policy.{Policy}
 use Rattle.index_model.specs.declared.indexes.Spot.{Spot}
 use Rattle.index_model.specs.declared.nodes.RawExtent.{RawExtent}
-use Rattle.doc_elements.specs.declared.schema.Container.{Container}
-use Rattle.doc_elements.specs.declared.schema.Container.TheVariants as place
-use Rattle.doc_elements.specs.declared.schema.Form.TheVariants as form
-use Rattle.doc_elements.specs.declared.schema.Child.TheVariants as child
+use Rattle.ltfs_documents.specs.declared.doc_elements.schema.Container.{Container}
+use Rattle.ltfs_documents.specs.declared.doc_elements.schema.Container.TheVariants as place
+use Rattle.ltfs_documents.specs.declared.doc_elements.schema.Form.TheVariants as form
+use Rattle.ltfs_documents.specs.declared.doc_elements.schema.Child.TheVariants as child
 use Rattle.index_model.specs.Extents.{IsExtent}
-use Rattle.doc_elements.specs.Elements.{Item, plain, bare, nested, Items, no_items, item, nodes_of, node_count}
+use Rattle.ltfs_documents.specs.DocElements.Elements.{Item, plain, bare, nested, Items, no_items, item, nodes_of, node_count}
 use Rattle.index_model.specs.Grammar.{told, inside, own_children, or_else, TellsMaybe, TellsSpot, TellsPolicy, TellsVolume, TellsFacts, TellsExtent, TellsExtents, HasExtents, TellsXattr, TellsXattrs, HasXattrs, TellsFile, TellsLink, TellsNodes, TellsContents}
 use Rattle.index_model.specs.Keys.{IsXattr}
 use Rattle.index_model.specs.Names.{IsNodeName, IsVolumeName}
-use Rattle.doc_elements.specs.Pieces.{words, uuid, letter, number}
-use Rattle.doc_elements.specs.Pieces as val
-use Rattle.doc_elements.specs.Schema.{rule}
+use Rattle.ltfs_documents.specs.DocElements.Pieces.{words, uuid, letter, number}
+use Rattle.ltfs_documents.specs.DocElements.Pieces as val
+use Rattle.ltfs_documents.specs.DocElements.Schema.{rule}
 use Rattle.index_model.specs.Texts.{IsPlainText}
 use Rattle.index_model.specs.Valid.{IsPolicy, IsSpot}
 use Rattle.index_model.specs.Values.{NodeFacts, Nodes, no_nodes, directory, file, link, VolumeFacts, count}

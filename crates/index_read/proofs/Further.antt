@@ -9,20 +9,20 @@ use Rattle.std.specs.Str.Lossy.{utf8_valid_len}
 use Rattle.tape_types.specs.declared.times.Civil.{Civil}
 use Rattle.tape_types.specs.Times.{civil_in}
 use Rattle.tape_types.specs.Uuids.{uuid_in}
-use Rattle.doc_fields.specs.declared.errors.Why.TheVariants as why
-use Rattle.doc_fields.specs.declared.starts.Attribute.{Attribute}
-use Rattle.doc_fields.specs.declared.starts.Attribute.TheVariants as attribute
-use Rattle.doc_fields.specs.declared.starts.Start.{Start}
-use Rattle.doc_fields.specs.declared.tags.Tag.{Tag}
-use Rattle.doc_fields.specs.declared.values.LockState.TheVariants.{Unlocked, Locked, PermLocked}
-use Rattle.doc_fields.specs.Reading.{Read, ◌>>=◌, between, byte, fault, literal_at, one_at, syntax_at, unknown_at}
-use Rattle.doc_fields.specs.Space.{is_space, run_end, space_end}
-use Rattle.doc_fields.specs.StartTag.{attribute_at, attribute_of, behind_at, begins_name, closes_at, first_at, in_name, is_known, is_version, name_at, named_at, percent_of, quoted_at, rest_at, second_at, tag_or_unknown, type_of, value_at, version_at, versioned}
-use Rattle.doc_fields.specs.EndTag.{end_at}
-use Rattle.doc_fields.specs.Tags.{is_root, is_typed, same, spelled, tag_named}
-use Rattle.doc_fields.specs.Numbers.{digits, is_digit, number_at, number_of}
-use Rattle.doc_fields.specs.Texts.{is_allowed, is_cut_reference, line_feeds, put_front, reference, referred, resolved, resolved_text, run_text, text_at, text_end, unit_at, with_unit}
-use Rattle.doc_fields.specs.Values.{bool_at, first_word, letter_at, lock_at, lock_word, shown, time_at, time_or_fault, uuid_at, uuid_or_fault, word_at, word_or_fault}
+use Rattle.ltfs_documents.specs.declared.doc_fields.errors.Why.TheVariants as why
+use Rattle.ltfs_documents.specs.declared.doc_fields.starts.Attribute.{Attribute}
+use Rattle.ltfs_documents.specs.declared.doc_fields.starts.Attribute.TheVariants as attribute
+use Rattle.ltfs_documents.specs.declared.doc_fields.starts.Start.{Start}
+use Rattle.ltfs_documents.specs.declared.doc_fields.tags.Tag.{Tag}
+use Rattle.ltfs_documents.specs.declared.doc_fields.values.LockState.TheVariants.{Unlocked, Locked, PermLocked}
+use Rattle.ltfs_documents.specs.DocFields.Reading.{Read, ◌>>=◌, between, byte, fault, literal_at, one_at, syntax_at, unknown_at}
+use Rattle.ltfs_documents.specs.DocFields.Space.{is_space, run_end, space_end}
+use Rattle.ltfs_documents.specs.DocFields.StartTag.{attribute_at, attribute_of, behind_at, begins_name, closes_at, first_at, in_name, is_known, is_version, name_at, named_at, percent_of, quoted_at, rest_at, second_at, tag_or_unknown, type_of, value_at, version_at, versioned}
+use Rattle.ltfs_documents.specs.DocFields.EndTag.{end_at}
+use Rattle.ltfs_documents.specs.DocFields.Tags.{is_root, is_typed, same, spelled, tag_named}
+use Rattle.ltfs_documents.specs.DocFields.Numbers.{digits, is_digit, number_at, number_of}
+use Rattle.ltfs_documents.specs.DocFields.Texts.{is_allowed, is_cut_reference, line_feeds, put_front, reference, referred, resolved, resolved_text, run_text, text_at, text_end, unit_at, with_unit}
+use Rattle.ltfs_documents.specs.DocFields.Values.{bool_at, first_word, letter_at, lock_at, lock_word, shown, time_at, time_or_fault, uuid_at, uuid_or_fault, word_at, word_or_fault}
 
 -- ---- tools
 

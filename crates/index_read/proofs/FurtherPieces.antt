@@ -2,27 +2,27 @@
 use Rattle.std.proofs.Common.{◌≡◌, ℕ, suc, ◌+◌, Bool, not, ◌==◌, ◌&&◌, nat_le, nat_lt, List, [], ◌∷◌, ◌++◌, length, Option, Some, None, Result, Ok, Err, refl, sym, ap, subst, ◌∙◌, arith}
 use Rattle.tape_types.specs.Bounds.{most_nodes}
 use lib.Dec.{eqb-suc-suc}
-use Rattle.doc_fields.specs.declared.starts.Attribute.{Attribute}
-use Rattle.doc_fields.specs.declared.starts.Start.{Start}
-use Rattle.doc_fields.specs.declared.tags.Tag.{Tag}
-use Rattle.doc_fields.specs.Reading.{Read, byte}
-use Rattle.doc_fields.specs.Space.{space_end}
-use Rattle.doc_fields.specs.StartTag.{named_at, rest_at}
-use Rattle.doc_fields.specs.EndTag.{end_at}
-use Rattle.doc_fields.specs.Numbers.{number_at}
-use Rattle.doc_fields.specs.Texts.{text_at}
-use Rattle.doc_fields.specs.Values.{bool_at, letter_at, lock_at, time_at, uuid_at}
-use Rattle.doc_elements.specs.declared.errors.PieceErr.{PieceErr}
-use Rattle.doc_elements.specs.declared.errors.PieceErr.TheVariants as errors
-use Rattle.doc_elements.specs.declared.schema.Child.{Child}
-use Rattle.doc_elements.specs.declared.schema.Child.TheVariants as child
-use Rattle.doc_elements.specs.declared.schema.Form.{Form}
-use Rattle.doc_elements.specs.declared.schema.Form.TheVariants as form
-use Rattle.doc_elements.specs.Children.{first_missing, member}
-use Rattle.doc_elements.specs.Documents.{Point, Reaches, after, counted}
-use Rattle.doc_elements.specs.Pieces.{Frame, Piece, Val, ◌>>=◌, beside, bytes_in, bytes_of, bytes_told, child_at, close_at, closes, empty_value, has_any, if_known, in_range, is_base64, is_encoded, is_name, is_too_great, leaf, leaf_at, least, letter, lift, lock, made, name_in, name_of, named, none_missing, number, number_in, opens, opens_node, piece_at, some_bytes, spaced, time, truth, unknown_by, unknown_first, uuid, value_in, verdict, whole, words}
-use Rattle.doc_elements.specs.Schema.{excludes, may_repeat, required, rule, tag_of}
-use Rattle.ltfs_text.specs.Names.{decoded}
+use Rattle.ltfs_documents.specs.declared.doc_fields.starts.Attribute.{Attribute}
+use Rattle.ltfs_documents.specs.declared.doc_fields.starts.Start.{Start}
+use Rattle.ltfs_documents.specs.declared.doc_fields.tags.Tag.{Tag}
+use Rattle.ltfs_documents.specs.DocFields.Reading.{Read, byte}
+use Rattle.ltfs_documents.specs.DocFields.Space.{space_end}
+use Rattle.ltfs_documents.specs.DocFields.StartTag.{named_at, rest_at}
+use Rattle.ltfs_documents.specs.DocFields.EndTag.{end_at}
+use Rattle.ltfs_documents.specs.DocFields.Numbers.{number_at}
+use Rattle.ltfs_documents.specs.DocFields.Texts.{text_at}
+use Rattle.ltfs_documents.specs.DocFields.Values.{bool_at, letter_at, lock_at, time_at, uuid_at}
+use Rattle.ltfs_documents.specs.declared.doc_elements.errors.PieceErr.{PieceErr}
+use Rattle.ltfs_documents.specs.declared.doc_elements.errors.PieceErr.TheVariants as errors
+use Rattle.ltfs_documents.specs.declared.doc_elements.schema.Child.{Child}
+use Rattle.ltfs_documents.specs.declared.doc_elements.schema.Child.TheVariants as child
+use Rattle.ltfs_documents.specs.declared.doc_elements.schema.Form.{Form}
+use Rattle.ltfs_documents.specs.declared.doc_elements.schema.Form.TheVariants as form
+use Rattle.ltfs_documents.specs.DocElements.Children.{first_missing, member}
+use Rattle.ltfs_documents.specs.DocElements.Documents.{Point, Reaches, after, counted}
+use Rattle.ltfs_documents.specs.DocElements.Pieces.{Frame, Piece, Val, ◌>>=◌, beside, bytes_in, bytes_of, bytes_told, child_at, close_at, closes, empty_value, has_any, if_known, in_range, is_base64, is_encoded, is_name, is_too_great, leaf, leaf_at, least, letter, lift, lock, made, name_in, name_of, named, none_missing, number, number_in, opens, opens_node, piece_at, some_bytes, spaced, time, truth, unknown_by, unknown_first, uuid, value_in, verdict, whole, words}
+use Rattle.ltfs_documents.specs.DocElements.Schema.{excludes, may_repeat, required, rule, tag_of}
+use Rattle.ltfs_documents.specs.LtfsText.Names.{decoded}
 use Rattle.std.specs.Str.{is_utf8}
 use Rattle.index_read.proofs.Further.{Alike, behind, just, if_alike, self_alike, tag_behind, space_further, rest_further, named_further, end_further, number_further, bool_further, lock_further, letter_further, time_further, uuid_further, text_further}
 

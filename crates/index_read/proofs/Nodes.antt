@@ -1,19 +1,19 @@
 -- What the root directory's children tell is the list of the nodes in it.
 use Rattle.std.proofs.Common.{◌≡◌, ℕ, ◌+◌, List, [], ◌∷◌, ◌++◌, length, true, refl, sym, ap, subst, ◌∙◌, append_assoc, length-append, arith}
 use Rattle.std.proofs.lemmas.List.{append-nil}
-use Rattle.doc_fields.specs.declared.tags.Tag.{Tag}
-use Rattle.doc_fields.specs.declared.tags.Tag.TheVariants.{LtfsLabel, Directory, File, Name, Symlink, Contents, ExtendedAttributes}
-use Rattle.doc_elements.specs.Children.{member}
+use Rattle.ltfs_documents.specs.declared.doc_fields.tags.Tag.{Tag}
+use Rattle.ltfs_documents.specs.declared.doc_fields.tags.Tag.TheVariants.{LtfsLabel, Directory, File, Name, Symlink, Contents, ExtendedAttributes}
+use Rattle.ltfs_documents.specs.DocElements.Children.{member}
 use Rattle.index_model.specs.declared.nodes.NodeKind.TheVariants as kinds
-use Rattle.doc_elements.specs.declared.schema.Container.{Container}
-use Rattle.doc_elements.specs.declared.schema.Container.TheVariants as place
-use Rattle.doc_elements.specs.declared.schema.Form.{Form}
-use Rattle.doc_elements.specs.declared.schema.Form.TheVariants as form
-use Rattle.doc_elements.specs.declared.schema.Child.TheVariants as child
-use Rattle.doc_elements.specs.Schema.{tag_of, contents_rule, directory_rule}
+use Rattle.ltfs_documents.specs.declared.doc_elements.schema.Container.{Container}
+use Rattle.ltfs_documents.specs.declared.doc_elements.schema.Container.TheVariants as place
+use Rattle.ltfs_documents.specs.declared.doc_elements.schema.Form.{Form}
+use Rattle.ltfs_documents.specs.declared.doc_elements.schema.Form.TheVariants as form
+use Rattle.ltfs_documents.specs.declared.doc_elements.schema.Child.TheVariants as child
+use Rattle.ltfs_documents.specs.DocElements.Schema.{tag_of, contents_rule, directory_rule}
 use Rattle.index_model.specs.Values.{NodeFacts, NodeValue, Nodes, no_nodes, directory, file, link, value_in, count, listed}
-use Rattle.doc_elements.specs.Pieces.{Val}
-use Rattle.doc_elements.specs.Elements.{Item, plain, bare, nested, Items, no_items, item, item_tag}
+use Rattle.ltfs_documents.specs.DocElements.Pieces.{Val}
+use Rattle.ltfs_documents.specs.DocElements.Elements.{Item, plain, bare, nested, Items, no_items, item, item_tag}
 use Rattle.index_model.specs.Grammar.{told, TellsFacts, TellsNodes, TellsContents}
 use Rattle.index_read.specs.Told.{State, facts_with, kind_with, link_or, begun, item_told, items_told}
 use Rattle.index_read.proofs.Fits.{HasForm, FitsItem, Fits}

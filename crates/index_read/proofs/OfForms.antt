@@ -2,14 +2,14 @@
 use Rattle.std.proofs.Common.{◌≡◌, ℕ, List, Bool, Option, Some, None, refl, ap, ◌∙◌}
 use Rattle.std.specs.Option.{option_map}
 use Rattle.tape_types.specs.declared.times.Civil.{Civil}
-use Rattle.doc_fields.specs.declared.tags.Tag.{Tag}
-use Rattle.doc_fields.specs.declared.values.LockState.{LockState}
-use Rattle.doc_elements.specs.declared.schema.Container.{Container}
-use Rattle.doc_elements.specs.declared.schema.Form.{Form}
-use Rattle.doc_elements.specs.declared.schema.Child.TheVariants as child
-use Rattle.doc_elements.specs.Schema.{rule}
-use Rattle.doc_elements.specs.Pieces.{Val, words, time, uuid, letter, number, truth, lock, bytes}
-use Rattle.doc_elements.specs.Elements.{Items}
+use Rattle.ltfs_documents.specs.declared.doc_fields.tags.Tag.{Tag}
+use Rattle.ltfs_documents.specs.declared.doc_fields.values.LockState.{LockState}
+use Rattle.ltfs_documents.specs.declared.doc_elements.schema.Container.{Container}
+use Rattle.ltfs_documents.specs.declared.doc_elements.schema.Form.{Form}
+use Rattle.ltfs_documents.specs.declared.doc_elements.schema.Child.TheVariants as child
+use Rattle.ltfs_documents.specs.DocElements.Schema.{rule}
+use Rattle.ltfs_documents.specs.DocElements.Pieces.{Val, words, time, uuid, letter, number, truth, lock, bytes}
+use Rattle.ltfs_documents.specs.DocElements.Elements.{Items}
 use Rattle.index_model.specs.Grammar.{or_else, told}
 use Rattle.index_read.specs.Told.{words_or, words_told, time_or, uuid_or, letter_or, number_or, truth_or, lock_told, bytes_or}
 use Rattle.index_read.proofs.Fits.{HasForm, Fits, told_form}

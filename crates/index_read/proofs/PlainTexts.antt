@@ -8,10 +8,10 @@ use Rattle.std.proofs.lemmas.Bool.Decides.{nat_tests}
 use Rattle.std.proofs.lemmas.Str.{chars-encodes}
 use Rattle.std.proofs.lemmas.Bool.{and_parts}
 use lib.Utf8.{scalar}
-use Rattle.doc_fields.specs.Reading.{Read, ◌>>=◌, begins, between, syntax_at}
-use Rattle.doc_fields.specs.Texts.{is_allowed, named, digit_of, and_then, finished, numbered, reference, line_feeds, put_front, referred, unit_at, with_unit, resolved, resolved_text, run_text, text_at, text_end}
-use Rattle.doc_fields.specs.Values.{first_word}
-use Rattle.doc_fields.proofs.Allowed.{characters_are_bytes}
+use Rattle.ltfs_documents.specs.DocFields.Reading.{Read, ◌>>=◌, begins, between, syntax_at}
+use Rattle.ltfs_documents.specs.DocFields.Texts.{is_allowed, named, digit_of, and_then, finished, numbered, reference, line_feeds, put_front, referred, unit_at, with_unit, resolved, resolved_text, run_text, text_at, text_end}
+use Rattle.ltfs_documents.specs.DocFields.Values.{first_word}
+use Rattle.ltfs_documents.proofs.DocFields.Allowed.{characters_are_bytes}
 use Rattle.base64.specs.GeneralPurpose.{IsBytes}
 use Rattle.index_model.specs.Texts.{IsPlainText}
 

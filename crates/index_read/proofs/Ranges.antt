@@ -8,25 +8,25 @@ use Rattle.std.proofs.lemmas.Bool.{not-true, and_parts}
 use Rattle.tape_types.specs.Bounds.{longest_name}
 use Rattle.tape_types.specs.Names.{has_byte, is_dot}
 use Rattle.tape_types.specs.Uuids.{uuid_in}
-use Rattle.doc_fields.specs.declared.starts.Start.{Start}
-use Rattle.doc_fields.specs.declared.tags.Tag.{Tag}
-use Rattle.doc_fields.specs.Numbers.{number_at}
-use Rattle.doc_fields.specs.EndTag.{end_at}
-use Rattle.doc_fields.specs.Reading.{between, byte, syntax_at}
-use Rattle.doc_fields.specs.Space.{space_end}
-use Rattle.doc_fields.specs.Texts.{text_at}
-use Rattle.doc_fields.specs.Values.{letter_at, uuid_at, uuid_or_fault}
-use Rattle.ltfs_text.specs.Names.{decoded}
-use Rattle.doc_elements.specs.declared.errors.PieceErr.{PieceErr}
-use Rattle.doc_elements.specs.declared.errors.PieceErr.TheVariants as errors
-use Rattle.doc_elements.specs.declared.schema.Form.{Form}
-use Rattle.doc_elements.specs.declared.schema.Form.TheVariants as form
+use Rattle.ltfs_documents.specs.declared.doc_fields.starts.Start.{Start}
+use Rattle.ltfs_documents.specs.declared.doc_fields.tags.Tag.{Tag}
+use Rattle.ltfs_documents.specs.DocFields.Numbers.{number_at}
+use Rattle.ltfs_documents.specs.DocFields.EndTag.{end_at}
+use Rattle.ltfs_documents.specs.DocFields.Reading.{between, byte, syntax_at}
+use Rattle.ltfs_documents.specs.DocFields.Space.{space_end}
+use Rattle.ltfs_documents.specs.DocFields.Texts.{text_at}
+use Rattle.ltfs_documents.specs.DocFields.Values.{letter_at, uuid_at, uuid_or_fault}
+use Rattle.ltfs_documents.specs.LtfsText.Names.{decoded}
+use Rattle.ltfs_documents.specs.declared.doc_elements.errors.PieceErr.{PieceErr}
+use Rattle.ltfs_documents.specs.declared.doc_elements.errors.PieceErr.TheVariants as errors
+use Rattle.ltfs_documents.specs.declared.doc_elements.schema.Form.{Form}
+use Rattle.ltfs_documents.specs.declared.doc_elements.schema.Form.TheVariants as form
 use Rattle.base64.specs.GeneralPurpose.{IsBytes}
-use Rattle.node_keys.specs.Keys.{is_key}
+use Rattle.tape_types.specs.NodeKeys.Keys.{is_key}
 use Rattle.index_model.specs.Names.{IsNodeName, IsVolumeName}
-use Rattle.doc_elements.specs.Pieces.{Val, words, uuid, letter, number, bytes, ◌>>=◌, lift, least, is_too_great, in_range, number_in, is_volume_name, is_name, is_encoded, name_in, name_of, named, is_base64, bytes_in, bytes_of, bytes_told, some_bytes, value_in, empty_value, leaf_at}
+use Rattle.ltfs_documents.specs.DocElements.Pieces.{Val, words, uuid, letter, number, bytes, ◌>>=◌, lift, least, is_too_great, in_range, number_in, is_volume_name, is_name, is_encoded, name_in, name_of, named, is_base64, bytes_in, bytes_of, bytes_told, some_bytes, value_in, empty_value, leaf_at}
 use Rattle.index_model.specs.Texts.{IsLetter, IsPlainText}
-use Rattle.doc_elements.proofs.Inversion.{bind_ok, lift_ok, unless_ok}
+use Rattle.ltfs_documents.proofs.DocElements.Inversion.{bind_ok, lift_ok, unless_ok}
 use Rattle.index_read.proofs.DecodedBytes.{base64_bytes}
 use Rattle.index_read.proofs.PlainTexts.{plain_nothing, text_read}
 use Rattle.index_read.proofs.Uuids.{uuid_fits}

@@ -3,22 +3,22 @@ use Rattle.std.proofs.Common.{◌≡◌, ℕ, Bool, true, false, not, ◌==◌, 
 use Rattle.std.specs.Option.{option_map}
 use Rattle.std.proofs.lemmas.List.{length-take-le, take-append-drop}
 use Rattle.std.proofs.lemmas.Str.{IsCharBoundary-from_take, IsUtf8-append, IsUtf8-drop}
-use Rattle.doc_fields.specs.declared.tags.Tag.{Tag}
-use Rattle.doc_fields.specs.declared.tags.Tag.TheVariants.{AllowPolicyUpdate, Creator, Directory, ExtentInfo, GenerationNumber, HighestFileUid, Location, LtfsIndex, PreviousGenerationLocation, Symlink, UpdateTime, VolumeUuid}
-use Rattle.doc_fields.specs.Space.{space_end}
-use Rattle.doc_elements.specs.declared.children.Children.{Children}
-use Rattle.doc_elements.specs.declared.errors.PieceErr.{PieceErr}
-use Rattle.doc_elements.specs.declared.schema.Form.{Form}
-use Rattle.doc_elements.specs.declared.schema.Container.{Container}
-use Rattle.doc_elements.specs.declared.schema.Container.TheVariants as place
-use Rattle.doc_elements.specs.declared.schema.Child.TheVariants as child
-use Rattle.doc_elements.specs.Children.{Holds, bits_of, code, first_missing, member}
-use Rattle.doc_elements.specs.Documents.{Point, Reaches, after, counted, fresh, with_child}
-use Rattle.doc_elements.specs.Elements.{Item, plain, MayFollow}
-use Rattle.doc_elements.specs.Pieces.{Frame, Piece, closes, has_any, leaf, opens, piece_at, whole}
-use Rattle.doc_elements.specs.Schema.{excludes, may_repeat, required, rule, tag_of}
-use Rattle.doc_elements.proofs.Bits.{has_is}
-use Rattle.doc_elements.proofs.Inversion.{What, is_piece, piece_is}
+use Rattle.ltfs_documents.specs.declared.doc_fields.tags.Tag.{Tag}
+use Rattle.ltfs_documents.specs.declared.doc_fields.tags.Tag.TheVariants.{AllowPolicyUpdate, Creator, Directory, ExtentInfo, GenerationNumber, HighestFileUid, Location, LtfsIndex, PreviousGenerationLocation, Symlink, UpdateTime, VolumeUuid}
+use Rattle.ltfs_documents.specs.DocFields.Space.{space_end}
+use Rattle.ltfs_documents.specs.declared.doc_elements.children.Children.{Children}
+use Rattle.ltfs_documents.specs.declared.doc_elements.errors.PieceErr.{PieceErr}
+use Rattle.ltfs_documents.specs.declared.doc_elements.schema.Form.{Form}
+use Rattle.ltfs_documents.specs.declared.doc_elements.schema.Container.{Container}
+use Rattle.ltfs_documents.specs.declared.doc_elements.schema.Container.TheVariants as place
+use Rattle.ltfs_documents.specs.declared.doc_elements.schema.Child.TheVariants as child
+use Rattle.ltfs_documents.specs.DocElements.Children.{Holds, bits_of, code, first_missing, member}
+use Rattle.ltfs_documents.specs.DocElements.Documents.{Point, Reaches, after, counted, fresh, with_child}
+use Rattle.ltfs_documents.specs.DocElements.Elements.{Item, plain, MayFollow}
+use Rattle.ltfs_documents.specs.DocElements.Pieces.{Frame, Piece, closes, has_any, leaf, opens, piece_at, whole}
+use Rattle.ltfs_documents.specs.DocElements.Schema.{excludes, may_repeat, required, rule, tag_of}
+use Rattle.ltfs_documents.proofs.DocElements.Bits.{has_is}
+use Rattle.ltfs_documents.proofs.DocElements.Inversion.{What, is_piece, piece_is}
 use Rattle.index_model.specs.declared.indexes.Index.{Index}
 use Rattle.index_model.specs.declared.indexes.Spot.{Spot}
 use Rattle.index_model.specs.Grammar.{IndexText}

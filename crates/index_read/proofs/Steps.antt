@@ -2,16 +2,16 @@
 use Rattle.std.proofs.Common.{◌≡◌, ℕ, zero, suc, ◌≤◌, List, [], ◌∷◌, ◌++◌, length, Bool, true, false, Result, Ok, Err, refl, sym, ap, subst, ◌∙◌, arith}
 use Rattle.std.proofs.lemmas.List.{length-append}
 use Rattle.tape_types.specs.Bounds.{most_nodes}
-use Rattle.doc_elements.specs.declared.errors.PieceErr.{PieceErr}
-use Rattle.doc_elements.specs.declared.schema.Container.{Container}
-use Rattle.doc_elements.specs.declared.schema.Container.TheVariants as place
-use Rattle.doc_elements.specs.Pieces.{Piece, opens, whole, closes, leaf, piece_at}
-use Rattle.doc_elements.specs.Documents.{Halted, Reaches, after, counted, fresh}
-use Rattle.doc_elements.specs.Elements.{Item, plain}
-use Rattle.doc_elements.specs.declared.pieces.Piece as code_piece
-use Rattle.doc_elements.specs.Answers.{HasRoom, Fails, UnlessMemory, piece_of}
-use Rattle.doc_elements.proofs.Steps.{few_counted, point, reaches_more, unless_memory}
-use Rattle.doc_elements.specs.Documents.{head_of}
+use Rattle.ltfs_documents.specs.declared.doc_elements.errors.PieceErr.{PieceErr}
+use Rattle.ltfs_documents.specs.declared.doc_elements.schema.Container.{Container}
+use Rattle.ltfs_documents.specs.declared.doc_elements.schema.Container.TheVariants as place
+use Rattle.ltfs_documents.specs.DocElements.Pieces.{Piece, opens, whole, closes, leaf, piece_at}
+use Rattle.ltfs_documents.specs.DocElements.Documents.{Halted, Reaches, after, counted, fresh}
+use Rattle.ltfs_documents.specs.DocElements.Elements.{Item, plain}
+use Rattle.ltfs_documents.specs.declared.doc_elements.pieces.Piece as code_piece
+use Rattle.ltfs_documents.specs.DocElements.Answers.{HasRoom, Fails, UnlessMemory, piece_of}
+use Rattle.ltfs_documents.proofs.DocElements.Steps.{few_counted, point, reaches_more, unless_memory}
+use Rattle.ltfs_documents.specs.DocElements.Documents.{head_of}
 use Rattle.index_read.specs.declared.walking.Level as code_level
 use Rattle.index_read.specs.Fronts.{IsFront, IsRootPointed}
 use Rattle.index_read.specs.Told.{State, Level, Tell, blank, outermost, changed, begun, ended, leaf_told, levels_after, piece_told}

@@ -5,15 +5,15 @@ use Rattle.std.specs.List.{AllByRecursion}
 use Rattle.tape_types.specs.declared.moments.Times.{Times}
 use Rattle.tape_types.specs.declared.times.Civil.{Civil}
 use Rattle.tape_types.specs.Times.{civil_of}
-use Rattle.doc_fields.specs.declared.tags.Tag.{Tag}
-use Rattle.doc_fields.specs.declared.tags.Tag.TheVariants.{UpdateTime, CreationTime, ChangeTime, ModifyTime, AccessTime, BackupTime}
-use Rattle.doc_fields.proofs.Moments.{HasMoment}
-use Rattle.doc_elements.specs.Children.{code}
-use Rattle.doc_elements.specs.declared.schema.Container.{Container}
-use Rattle.doc_elements.specs.declared.schema.Container.TheVariants as place
-use Rattle.doc_elements.specs.Elements.{IsTimed, IsTimedPiece, plain}
-use Rattle.doc_elements.specs.Pieces.{Piece, Val, bytes, closes, leaf, letter, lock, number, opens, time, truth, uuid, whole, words}
-use Rattle.doc_elements.proofs.Timed.{reached_timed}
+use Rattle.ltfs_documents.specs.declared.doc_fields.tags.Tag.{Tag}
+use Rattle.ltfs_documents.specs.declared.doc_fields.tags.Tag.TheVariants.{UpdateTime, CreationTime, ChangeTime, ModifyTime, AccessTime, BackupTime}
+use Rattle.ltfs_documents.proofs.DocFields.Moments.{HasMoment}
+use Rattle.ltfs_documents.specs.DocElements.Children.{code}
+use Rattle.ltfs_documents.specs.declared.doc_elements.schema.Container.{Container}
+use Rattle.ltfs_documents.specs.declared.doc_elements.schema.Container.TheVariants as place
+use Rattle.ltfs_documents.specs.DocElements.Elements.{IsTimed, IsTimedPiece, plain}
+use Rattle.ltfs_documents.specs.DocElements.Pieces.{Piece, Val, bytes, closes, leaf, letter, lock, number, opens, time, truth, uuid, whole, words}
+use Rattle.ltfs_documents.proofs.DocElements.Timed.{reached_timed}
 use Rattle.index_model.specs.declared.indexes.Index.{Index}
 use Rattle.index_model.specs.declared.nodes.NodeKind.{NodeKind}
 use Rattle.index_model.specs.declared.nodes.NodeKind.TheVariants as kinds

@@ -1,8 +1,8 @@
 -- What the pieces of elements tell.
 use Rattle.std.proofs.Common.{◌≡◌, ℕ, List, [], ◌∷◌, ◌++◌, refl, sym, subst, ◌∙◌, append_assoc}
-use Rattle.doc_elements.specs.declared.schema.Container.{Container}
-use Rattle.doc_elements.specs.Pieces.{Piece, closes}
-use Rattle.doc_elements.specs.Elements.{Item, plain, bare, nested, Items, no_items, item, pieces_of, all_pieces}
+use Rattle.ltfs_documents.specs.declared.doc_elements.schema.Container.{Container}
+use Rattle.ltfs_documents.specs.DocElements.Pieces.{Piece, closes}
+use Rattle.ltfs_documents.specs.DocElements.Elements.{Item, plain, bare, nested, Items, no_items, item, pieces_of, all_pieces}
 use Rattle.index_read.specs.Told.{State, Level, Tell, begun, ended, node_in, item_told, items_told, levels_after, piece_told}
 
 -- what pieces tell one behind the other is what all of them tell

@@ -5,8 +5,8 @@ use Rattle.std.proofs.lemmas.Option.{same_Some}
 use Rattle.index_model.specs.declared.indexes.Index.{Index}
 use Rattle.index_model.specs.declared.nodes.NodeKind.TheVariants as kinds
 use Rattle.index_model.specs.declared.nodes.Node.{Node}
-use Rattle.doc_elements.specs.declared.schema.Container.TheVariants as place
-use Rattle.node_keys.specs.declared.xattrs.Xattr.{Xattr}
+use Rattle.ltfs_documents.specs.declared.doc_elements.schema.Container.TheVariants as place
+use Rattle.tape_types.specs.declared.node_keys.xattrs.Xattr.{Xattr}
 use Rattle.index_model.specs.Extents.{IsKind}
 use Rattle.index_model.specs.Grammar.{IndexText}
 use Rattle.index_model.specs.Keys.{IsXattr}

@@ -1,11 +1,11 @@
 -- From the parts to the whole text.
 use Rattle.std.proofs.Common.{◌≡◌, ℕ, List, [], length, Ok, inl, inr, refl, sym, ap, subst, ◌∙◌}
-use Rattle.doc_fields.specs.Space.{space_end}
-use Rattle.doc_elements.specs.declared.errors.PieceErr.{PieceErr}
-use Rattle.doc_elements.specs.declared.errors.PieceErr.TheVariants as pieces
-use Rattle.doc_elements.specs.declared.schema.Container.TheVariants as place
-use Rattle.doc_elements.specs.Answers as answers
-use Rattle.doc_elements.specs.Documents.{Accepts, head_of, Halts, at_end, readable}
+use Rattle.ltfs_documents.specs.DocFields.Space.{space_end}
+use Rattle.ltfs_documents.specs.declared.doc_elements.errors.PieceErr.{PieceErr}
+use Rattle.ltfs_documents.specs.declared.doc_elements.errors.PieceErr.TheVariants as pieces
+use Rattle.ltfs_documents.specs.declared.doc_elements.schema.Container.TheVariants as place
+use Rattle.ltfs_documents.specs.DocElements.Answers as answers
+use Rattle.ltfs_documents.specs.DocElements.Documents.{Accepts, head_of, Halts, at_end, readable}
 use Rattle.index_model.specs.declared.errors.IndexErr.{IndexErr}
 use Rattle.index_model.specs.declared.errors.IndexErr.TheVariants as errors
 use Rattle.index_model.specs.Documents.{refusal_told}

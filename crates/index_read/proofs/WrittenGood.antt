@@ -5,41 +5,41 @@ use Rattle.std.specs.List.{AllByRecursion}
 use Rattle.tape_types.specs.declared.moments.Moment.{Moment}
 use Rattle.tape_types.specs.declared.times.Civil.{Civil}
 use Rattle.tape_types.specs.Times.{civil_of}
-use Rattle.doc_fields.specs.declared.tags.Tag.{Tag}
-use Rattle.doc_fields.specs.declared.tags.Tag.TheVariants.{Creator, Comment, VolumeUuid, Partition, GenerationNumber, UpdateTime, StartBlock, AllowPolicyUpdate, Size, VolumeLockState, HighestFileUid, FileUid, Name, Length, CreationTime, ChangeTime, ModifyTime, AccessTime, BackupTime, ReadOnly, Symlink, FileOffset, ByteOffset, ByteCount, ExtendedAttributes, Key, Value}
-use Rattle.doc_fields.specs.declared.starts.Attribute.TheVariants.{Absent, Base64, Plain}
-use Rattle.node_keys.specs.declared.xattrs.Xattr.{Xattr}
-use Rattle.doc_fields.specs.declared.values.LockState.{LockState}
-use Rattle.doc_fields.specs.Tags.{spelled}
-use Rattle.doc_fields.specs.Written.{may_have}
-use Rattle.doc_fields.proofs.Again.{all_pass}
-use Rattle.doc_fields.proofs.WrittenBytes.{is_ascii}
-use Rattle.doc_elements.specs.Children.{member}
-use Rattle.ltfs_text.specs.Names.{written}
+use Rattle.ltfs_documents.specs.declared.doc_fields.tags.Tag.{Tag}
+use Rattle.ltfs_documents.specs.declared.doc_fields.tags.Tag.TheVariants.{Creator, Comment, VolumeUuid, Partition, GenerationNumber, UpdateTime, StartBlock, AllowPolicyUpdate, Size, VolumeLockState, HighestFileUid, FileUid, Name, Length, CreationTime, ChangeTime, ModifyTime, AccessTime, BackupTime, ReadOnly, Symlink, FileOffset, ByteOffset, ByteCount, ExtendedAttributes, Key, Value}
+use Rattle.ltfs_documents.specs.declared.doc_fields.starts.Attribute.TheVariants.{Absent, Base64, Plain}
+use Rattle.tape_types.specs.declared.node_keys.xattrs.Xattr.{Xattr}
+use Rattle.ltfs_documents.specs.declared.doc_fields.values.LockState.{LockState}
+use Rattle.ltfs_documents.specs.DocFields.Tags.{spelled}
+use Rattle.ltfs_documents.specs.DocFields.Written.{may_have}
+use Rattle.ltfs_documents.proofs.DocFields.Again.{all_pass}
+use Rattle.ltfs_documents.proofs.DocFields.WrittenBytes.{is_ascii}
+use Rattle.ltfs_documents.specs.DocElements.Children.{member}
+use Rattle.ltfs_documents.specs.LtfsText.Names.{written}
 use Rattle.index_model.specs.declared.indexes.Policy.{Policy}
 use Rattle.index_model.specs.declared.indexes.Spot.{Spot}
 use Rattle.index_model.specs.declared.nodes.RawExtent.{RawExtent}
-use Rattle.doc_elements.specs.declared.schema.Container.{Container}
-use Rattle.doc_elements.specs.declared.schema.Container.TheVariants as place
-use Rattle.doc_elements.specs.declared.schema.Form.{Form}
-use Rattle.doc_elements.specs.declared.schema.Form.TheVariants as form
-use Rattle.doc_elements.specs.declared.schema.Child.TheVariants as child
+use Rattle.ltfs_documents.specs.declared.doc_elements.schema.Container.{Container}
+use Rattle.ltfs_documents.specs.declared.doc_elements.schema.Container.TheVariants as place
+use Rattle.ltfs_documents.specs.declared.doc_elements.schema.Form.{Form}
+use Rattle.ltfs_documents.specs.declared.doc_elements.schema.Form.TheVariants as form
+use Rattle.ltfs_documents.specs.declared.doc_elements.schema.Child.TheVariants as child
 use Rattle.index_model.specs.Canonical.{encoding}
-use Rattle.doc_elements.specs.Written.{bytes_type, is_text}
+use Rattle.ltfs_documents.specs.DocElements.Written.{bytes_type, is_text}
 use Rattle.index_model.specs.Extents.{IsExtent}
 use Rattle.index_model.specs.Keys.{IsXattr}
-use Rattle.doc_elements.specs.Elements.{Item, plain, nested, Items, no_items, item}
+use Rattle.ltfs_documents.specs.DocElements.Elements.{Item, plain, nested, Items, no_items, item}
 use Rattle.index_model.specs.Names.{IsVolumeName, IsNodeName}
-use Rattle.doc_elements.specs.Pieces.{Val, words, time, uuid, letter, number, truth, lock}
-use Rattle.doc_elements.specs.Pieces as val
-use Rattle.doc_elements.specs.Schema.{rule, tag_of}
+use Rattle.ltfs_documents.specs.DocElements.Pieces.{Val, words, time, uuid, letter, number, truth, lock}
+use Rattle.ltfs_documents.specs.DocElements.Pieces as val
+use Rattle.ltfs_documents.specs.DocElements.Schema.{rule, tag_of}
 use Rattle.index_model.specs.Texts.{IsPlainText}
 use Rattle.index_model.specs.Valid.{IsSpot, IsPolicy}
 use Rattle.index_model.specs.Values.{TimesValue, NodeFacts, Nodes, no_nodes, directory, file, link, VolumeFacts, IndexValue}
-use Rattle.doc_elements.proofs.WrittenItems.{attribute_of, GoodItem, GoodItems, ReadsBack, stand}
+use Rattle.ltfs_documents.proofs.DocElements.WrittenItems.{attribute_of, GoodItem, GoodItems, ReadsBack, stand}
 use Rattle.index_read.proofs.WrittenItems.{attributes_items, back_item, comment_item, directory_items, either_way, extent_items, extents_items, file_items, index_items, items_of, lock_item, maybe, name_items, nodes_items, policy_item, spot_items, times_items, xattr_items, xattrs_items}
-use Rattle.doc_elements.proofs.WrittenAttributes.{key_back, value_back}
-use Rattle.doc_elements.proofs.WrittenValues.{creator_back, time_back, truth_back, uuid_back}
+use Rattle.ltfs_documents.proofs.DocElements.WrittenAttributes.{key_back, value_back}
+use Rattle.ltfs_documents.proofs.DocElements.WrittenValues.{creator_back, time_back, truth_back, uuid_back}
 use Rattle.index_read.proofs.WrittenValues.{bounded_back, comment_back, generation_back, letter_back, lock_back, node_name_back, number_back, pattern_back, target_back, volume_name_back}
 
 -- ---- facts that can be told in a document

@@ -4,15 +4,15 @@ use Rattle.std.specs.Prelude.{⊤}
 use Rattle.std.specs.List.{AllByRecursion}
 use Rattle.std.proofs.lemmas.List.{length-map}
 use Rattle.tape_types.specs.Bounds.{most_nodes}
-use Rattle.doc_fields.specs.declared.tags.Tag.TheVariants.{LtfsIndex}
-use Rattle.doc_fields.specs.Tags.{spelled}
+use Rattle.ltfs_documents.specs.declared.doc_fields.tags.Tag.TheVariants.{LtfsIndex}
+use Rattle.ltfs_documents.specs.DocFields.Tags.{spelled}
 use Rattle.index_model.specs.declared.indexes.Index.{Index}
 use Rattle.index_model.specs.declared.nodes.NodeKind.{NodeKind}
 use Rattle.index_model.specs.declared.nodes.NodeKind.TheVariants as kinds
 use Rattle.index_model.specs.declared.nodes.Node.{Node}
-use Rattle.doc_elements.specs.declared.schema.Container.TheVariants as place
+use Rattle.ltfs_documents.specs.declared.doc_elements.schema.Container.TheVariants as place
 use Rattle.index_model.specs.Canonical.{canonical}
-use Rattle.doc_elements.proofs.Written.{framed, inner, written_document}
+use Rattle.ltfs_documents.proofs.DocElements.Written.{framed, inner, written_document}
 use Rattle.index_model.specs.Extents.{AreFiles, IsExtent, IsKind}
 use Rattle.index_model.specs.Grammar.{IndexText, Spells}
 use Rattle.index_model.specs.Keys.{IsXattr}
@@ -22,9 +22,9 @@ use Rattle.index_model.specs.Valid.{IsValid}
 use Rattle.index_model.specs.Values.{NodeFacts, Nodes, no_nodes, directory, file, link, NodeValue, value_in, IndexValue, count, listed, all_nodes, facts_of, value_of, volume_of, Tells}
 use Rattle.index_model.proofs.Walks.{all_at}
 use Rattle.index_read.specs.Links.{AreLinksShort, IsShortLink}
-use Rattle.doc_elements.proofs.WrittenAgain.{all_again, all_valid}
+use Rattle.ltfs_documents.proofs.DocElements.WrittenAgain.{all_again, all_valid}
 use Rattle.index_read.proofs.WrittenGood.{all_good, all_stand, GoodFacts, GoodIndex, GoodNodes, GoodVolume}
-use Rattle.doc_elements.proofs.WrittenItems.{texts_of}
+use Rattle.ltfs_documents.proofs.DocElements.WrittenItems.{texts_of}
 use Rattle.index_read.proofs.WrittenItems.{directory_items, items_of, nodes_items}
 use Rattle.index_read.proofs.WrittenTells.{all_count, contents_tell, directory_tells, root_told, volume_tells}
 use Rattle.index_read.proofs.WrittenTexts.{canonical_is}

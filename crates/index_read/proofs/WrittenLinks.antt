@@ -3,10 +3,10 @@ use Rattle.std.proofs.Common.{◌≡◌, ℕ, ◌+◌, ◌≤◌, ◌<◌, ◌^�
 use Rattle.std.specs.Prelude.{if◌then◌else◌}
 use Rattle.std.specs.List.{AllByRecursion, flat_map}
 use Rattle.percent_encoding.specs.Percent.{percent_encode_byte}
-use Rattle.doc_fields.specs.declared.tags.Tag.TheVariants.{LtfsIndex, Directory, File, FileUid, Name, ReadOnly, Contents, Symlink}
-use Rattle.doc_fields.specs.declared.starts.Attribute.TheVariants.{Absent, Version}
-use Rattle.doc_fields.specs.Written.{end_text, escape, escaped, start_text}
-use Rattle.ltfs_text.specs.Names.{encoded, has_special, is_escaped, written}
+use Rattle.ltfs_documents.specs.declared.doc_fields.tags.Tag.TheVariants.{LtfsIndex, Directory, File, FileUid, Name, ReadOnly, Contents, Symlink}
+use Rattle.ltfs_documents.specs.declared.doc_fields.starts.Attribute.TheVariants.{Absent, Version}
+use Rattle.ltfs_documents.specs.DocFields.Written.{end_text, escape, escaped, start_text}
+use Rattle.ltfs_documents.specs.LtfsText.Names.{encoded, has_special, is_escaped, written}
 use Rattle.index_model.specs.declared.indexes.Index.{Index}
 use Rattle.index_model.specs.Canonical.{attributes, canonical, directory_text, element, encoding, file_front, file_text, head, link_text, name, nodes_text, number, times, truth, volume_text}
 use Rattle.index_model.specs.Grammar.{IndexText}

@@ -2,16 +2,16 @@
 use Rattle.std.proofs.Common.{◌≡◌, ℕ, ◌+◌, ◌≤◌, List, [], ◌∷◌, length, Option, Some, None, inl, inr, refl, ap, arith, length-append}
 use Rattle.std.specs.Option.{option_map}
 use Rattle.tape_types.specs.Bounds.{most_nodes}
-use Rattle.doc_fields.specs.declared.tags.Tag.TheVariants.{Creator, Comment, VolumeUuid, GenerationNumber, UpdateTime, AllowPolicyUpdate, Size, VolumeLockState, HighestFileUid, Symlink}
-use Rattle.doc_fields.specs.declared.values.LockState.{LockState}
+use Rattle.ltfs_documents.specs.declared.doc_fields.tags.Tag.TheVariants.{Creator, Comment, VolumeUuid, GenerationNumber, UpdateTime, AllowPolicyUpdate, Size, VolumeLockState, HighestFileUid, Symlink}
+use Rattle.ltfs_documents.specs.declared.doc_fields.values.LockState.{LockState}
 use Rattle.index_model.specs.declared.indexes.Policy.{Policy}
 use Rattle.index_model.specs.declared.indexes.Spot.{Spot}
 use Rattle.index_model.specs.declared.nodes.RawExtent.{RawExtent}
-use Rattle.node_keys.specs.declared.xattrs.Xattr.{Xattr}
-use Rattle.doc_elements.specs.declared.schema.Container.TheVariants as place
+use Rattle.tape_types.specs.declared.node_keys.xattrs.Xattr.{Xattr}
+use Rattle.ltfs_documents.specs.declared.doc_elements.schema.Container.TheVariants as place
 use Rattle.index_model.specs.Grammar.{inside, names_in, told, TellsContents, TellsExtents, TellsFacts, TellsFile, TellsLink, TellsXattrs, TellsMaybe, TellsNodes, TellsPolicy, TellsSpot, TellsVolume}
-use Rattle.doc_elements.specs.Elements.{Item, Items, item, nested, no_items, node_count, nodes_of, plain}
-use Rattle.doc_elements.specs.Pieces.{words, time, uuid, number, truth, lock}
+use Rattle.ltfs_documents.specs.DocElements.Elements.{Item, Items, item, nested, no_items, node_count, nodes_of, plain}
+use Rattle.ltfs_documents.specs.DocElements.Pieces.{words, time, uuid, number, truth, lock}
 use Rattle.index_model.specs.Values.{NodeFacts, Nodes, no_nodes, directory, file, link, VolumeFacts, IndexValue, count, listed, all_nodes}
 use Rattle.index_read.proofs.WrittenItems.{attributes_items, back_item, comment_item, directory_items, either_way, extents_items, file_items, index_items, items_of, lock_item, maybe, name_items, nodes_items, policy_item, spot_items, xattrs_items}
 

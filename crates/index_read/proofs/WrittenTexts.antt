@@ -2,23 +2,23 @@
 use Rattle.std.proofs.Common.{◌≡◌, ℕ, List, [], ◌∷◌, ◌++◌, length, Option, Some, None, refl, ap, ◌∙◌, append_assoc, append-nil}
 use Rattle.std.specs.List.{flat_map}
 use Rattle.tape_types.specs.Uuids.{uuid_text}
-use Rattle.doc_fields.specs.declared.tags.Tag.TheVariants.{LtfsIndex, Creator, Comment, VolumeUuid, Location, Partition, GenerationNumber, UpdateTime, PreviousGenerationLocation, StartBlock, AllowPolicyUpdate, DataPlacementPolicy, IndexPartitionCriteria, Size, VolumeLockState, HighestFileUid, Directory, File, FileUid, Name, Length, CreationTime, ChangeTime, ModifyTime, AccessTime, BackupTime, ReadOnly, Contents, ExtentInfo, Symlink, Extent, FileOffset, ByteOffset, ByteCount, ExtendedAttributes, Key, Value}
-use Rattle.doc_fields.specs.declared.tags.Tag.TheVariants as tags
-use Rattle.node_keys.specs.declared.xattrs.Xattr.{Xattr}
-use Rattle.doc_fields.specs.declared.starts.Attribute.TheVariants.{Version}
-use Rattle.doc_fields.specs.Values.{lock_word}
-use Rattle.doc_fields.specs.Written.{start_text, end_text}
+use Rattle.ltfs_documents.specs.declared.doc_fields.tags.Tag.TheVariants.{LtfsIndex, Creator, Comment, VolumeUuid, Location, Partition, GenerationNumber, UpdateTime, PreviousGenerationLocation, StartBlock, AllowPolicyUpdate, DataPlacementPolicy, IndexPartitionCriteria, Size, VolumeLockState, HighestFileUid, Directory, File, FileUid, Name, Length, CreationTime, ChangeTime, ModifyTime, AccessTime, BackupTime, ReadOnly, Contents, ExtentInfo, Symlink, Extent, FileOffset, ByteOffset, ByteCount, ExtendedAttributes, Key, Value}
+use Rattle.ltfs_documents.specs.declared.doc_fields.tags.Tag.TheVariants as tags
+use Rattle.tape_types.specs.declared.node_keys.xattrs.Xattr.{Xattr}
+use Rattle.ltfs_documents.specs.declared.doc_fields.starts.Attribute.TheVariants.{Version}
+use Rattle.ltfs_documents.specs.DocFields.Values.{lock_word}
+use Rattle.ltfs_documents.specs.DocFields.Written.{start_text, end_text}
 use Rattle.index_model.specs.declared.indexes.Policy.{Policy}
 use Rattle.index_model.specs.declared.indexes.Spot.{Spot}
 use Rattle.index_model.specs.declared.nodes.RawExtent.{RawExtent}
-use Rattle.doc_elements.specs.declared.schema.Container.TheVariants as place
+use Rattle.ltfs_documents.specs.declared.doc_elements.schema.Container.TheVariants as place
 use Rattle.index_model.specs.Canonical.{attributes, canonical, directory_text, element, extent, file_front, file_text, head, if_told, letter, link_text, name, nodes_text, number, policy, spot, time, truth, volume_text, xattr}
 use Rattle.index_model.specs.Canonical as text
-use Rattle.doc_elements.specs.Pieces as val
-use Rattle.doc_elements.specs.Elements.{Item, plain, nested, Items, no_items, item}
+use Rattle.ltfs_documents.specs.DocElements.Pieces as val
+use Rattle.ltfs_documents.specs.DocElements.Elements.{Item, plain, nested, Items, no_items, item}
 use Rattle.index_model.specs.Values.{NodeFacts, Nodes, no_nodes, directory, file, link, IndexValue}
-use Rattle.doc_elements.specs.Written.{bytes_text, bytes_type}
-use Rattle.doc_elements.proofs.WrittenItems.{text_of, texts_of}
+use Rattle.ltfs_documents.specs.DocElements.Written.{bytes_text, bytes_type}
+use Rattle.ltfs_documents.proofs.DocElements.WrittenItems.{text_of, texts_of}
 use Rattle.index_read.proofs.WrittenItems.{attributes_items, back_item, comment_item, directory_items, extent_items, extents_items, file_items, items_of, lock_item, maybe, name_items, nodes_items, policy_item, spot_items, xattr_items, xattrs_items}
 
 -- ---- how texts join

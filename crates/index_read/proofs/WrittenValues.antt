@@ -3,22 +3,22 @@ use Rattle.std.proofs.Common.{◌≡◌, ℕ, ◌^◌, ◌<◌, ◌≤◌, true,
 use Rattle.std.specs.Str.{chars}
 use Rattle.std.proofs.lemmas.Bool.Decides.{nat_tests}
 use Rattle.tape_types.specs.Bounds.{longest_name}
-use Rattle.doc_fields.specs.declared.tags.Tag.{Tag}
-use Rattle.doc_fields.specs.declared.tags.Tag.TheVariants.{Comment, Name, Symlink}
-use Rattle.doc_fields.specs.declared.values.LockState.{LockState}
-use Rattle.doc_fields.specs.declared.values.LockState.TheVariants.{Unlocked, Locked, PermLocked}
-use Rattle.doc_fields.specs.Space.{is_space}
-use Rattle.doc_fields.specs.Values.{lock_word}
-use Rattle.doc_fields.proofs.TextsAgain.{escape_valid}
-use Rattle.doc_fields.proofs.ValuesAgain.{lock_again}
-use Rattle.doc_fields.proofs.WrittenBytes.{ascii_valid, decimal_valid, space_first}
-use Rattle.doc_elements.specs.declared.schema.Form.TheVariants as form
+use Rattle.ltfs_documents.specs.declared.doc_fields.tags.Tag.{Tag}
+use Rattle.ltfs_documents.specs.declared.doc_fields.tags.Tag.TheVariants.{Comment, Name, Symlink}
+use Rattle.ltfs_documents.specs.declared.doc_fields.values.LockState.{LockState}
+use Rattle.ltfs_documents.specs.declared.doc_fields.values.LockState.TheVariants.{Unlocked, Locked, PermLocked}
+use Rattle.ltfs_documents.specs.DocFields.Space.{is_space}
+use Rattle.ltfs_documents.specs.DocFields.Values.{lock_word}
+use Rattle.ltfs_documents.proofs.DocFields.TextsAgain.{escape_valid}
+use Rattle.ltfs_documents.proofs.DocFields.ValuesAgain.{lock_again}
+use Rattle.ltfs_documents.proofs.DocFields.WrittenBytes.{ascii_valid, decimal_valid, space_first}
+use Rattle.ltfs_documents.specs.declared.doc_elements.schema.Form.TheVariants as form
 use Rattle.index_model.specs.Names.{IsVolumeName, IsNodeName}
-use Rattle.doc_elements.specs.Pieces.{words, letter, number, lock, is_name, is_volume_name}
+use Rattle.ltfs_documents.specs.DocElements.Pieces.{words, letter, number, lock, is_name, is_volume_name}
 use Rattle.index_model.specs.Texts.{IsLetter, IsPlainText}
-use Rattle.doc_elements.proofs.WrittenItems.{ReadsBack}
-use Rattle.doc_elements.proofs.WrittenNames.{name_in_back, valid_name}
-use Rattle.doc_elements.proofs.WrittenValues.{behind, letter_back as sign_back, number_in_back, words_in_back}
+use Rattle.ltfs_documents.proofs.DocElements.WrittenItems.{ReadsBack}
+use Rattle.ltfs_documents.proofs.DocElements.WrittenNames.{name_in_back, valid_name}
+use Rattle.ltfs_documents.proofs.DocElements.WrittenValues.{behind, letter_back as sign_back, number_in_back, words_in_back}
 
 -- ---- names
 

@@ -1,19 +1,19 @@
 -- What the children of an extended attribute tell, and the attributes of a node.
 use Rattle.std.proofs.Common.{◌≡◌, ℕ, List, [], ◌∷◌, ◌++◌, length, Option, Some, None, refl, sym, ap, ◌∙◌, append_assoc}
 use Rattle.std.proofs.lemmas.List.{append-nil}
-use Rattle.node_keys.specs.declared.xattrs.Xattr.{Xattr}
-use Rattle.doc_fields.specs.declared.tags.Tag.{Tag}
-use Rattle.doc_fields.specs.declared.tags.Tag.TheVariants.{LtfsLabel, Location, Key, Value}
-use Rattle.doc_fields.specs.declared.tags.Tag.TheVariants as tags
+use Rattle.tape_types.specs.declared.node_keys.xattrs.Xattr.{Xattr}
+use Rattle.ltfs_documents.specs.declared.doc_fields.tags.Tag.{Tag}
+use Rattle.ltfs_documents.specs.declared.doc_fields.tags.Tag.TheVariants.{LtfsLabel, Location, Key, Value}
+use Rattle.ltfs_documents.specs.declared.doc_fields.tags.Tag.TheVariants as tags
 use Rattle.index_model.specs.declared.nodes.NodeKind.{NodeKind}
-use Rattle.doc_elements.specs.declared.schema.Container.{Container}
-use Rattle.doc_elements.specs.declared.schema.Container.TheVariants as place
-use Rattle.doc_elements.specs.declared.schema.Form.{Form}
-use Rattle.doc_elements.specs.declared.schema.Form.TheVariants as form
-use Rattle.doc_elements.specs.declared.schema.Child.TheVariants as child
-use Rattle.doc_elements.specs.Schema.{tag_of, attributes_rule, xattr_rule}
+use Rattle.ltfs_documents.specs.declared.doc_elements.schema.Container.{Container}
+use Rattle.ltfs_documents.specs.declared.doc_elements.schema.Container.TheVariants as place
+use Rattle.ltfs_documents.specs.declared.doc_elements.schema.Form.{Form}
+use Rattle.ltfs_documents.specs.declared.doc_elements.schema.Form.TheVariants as form
+use Rattle.ltfs_documents.specs.declared.doc_elements.schema.Child.TheVariants as child
+use Rattle.ltfs_documents.specs.DocElements.Schema.{tag_of, attributes_rule, xattr_rule}
 use Rattle.index_model.specs.Values.{NodeFacts, NodeValue, value_in}
-use Rattle.doc_elements.specs.Elements.{Item, plain, bare, nested, Items, no_items, item}
+use Rattle.ltfs_documents.specs.DocElements.Elements.{Item, plain, bare, nested, Items, no_items, item}
 use Rattle.index_model.specs.Grammar.{own, told, TellsXattr, TellsXattrs, HasXattrs}
 use Rattle.index_read.specs.Told.{State, words_or, bytes_or, xattr_with, blank_xattr, changed, begun, ended, with_xattr, item_told, items_told}
 use Rattle.index_read.proofs.Fits.{Fits, must_tell, told_form}

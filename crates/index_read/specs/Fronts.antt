@@ -1,15 +1,15 @@
 -- The front of a document of an index, behind which its pointers are told.
 use Rattle.std.specs.Prelude.{◌≡◌, ◌⊎◌, Bool, ℕ, List, [], ◌∷◌, true, length, Some, Ok}
 use Rattle.tape_types.specs.Times.{civil_of}
-use Rattle.doc_fields.specs.declared.tags.Tag.{Tag}
-use Rattle.doc_fields.specs.declared.tags.Tag.TheVariants.{Location, PreviousGenerationLocation}
+use Rattle.ltfs_documents.specs.declared.doc_fields.tags.Tag.{Tag}
+use Rattle.ltfs_documents.specs.declared.doc_fields.tags.Tag.TheVariants.{Location, PreviousGenerationLocation}
 use Rattle.index_model.specs.declared.indexes.Index.{Index}
 use Rattle.index_model.specs.declared.indexes.Spot.{Spot}
-use Rattle.doc_elements.specs.Children.{Holds, member}
-use Rattle.doc_elements.specs.declared.children.Children.{Children}
-use Rattle.doc_elements.specs.declared.schema.Container.TheVariants as place
-use Rattle.doc_elements.specs.Pieces.{Piece}
-use Rattle.doc_elements.specs.Documents.{Reaches, fresh, head_of}
+use Rattle.ltfs_documents.specs.DocElements.Children.{Holds, member}
+use Rattle.ltfs_documents.specs.declared.doc_elements.children.Children.{Children}
+use Rattle.ltfs_documents.specs.declared.doc_elements.schema.Container.TheVariants as place
+use Rattle.ltfs_documents.specs.DocElements.Pieces.{Piece}
+use Rattle.ltfs_documents.specs.DocElements.Documents.{Reaches, fresh, head_of}
 use Rattle.index_read.specs.declared.drafts.Draft.{Draft}
 use Rattle.index_read.specs.declared.walking.Level as code_level
 use Rattle.index_read.specs.Told.{State, Tell, blank, outermost}

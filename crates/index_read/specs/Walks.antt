@@ -1,13 +1,13 @@
 -- What a reader keeps while it goes from piece to piece.
 use Rattle.std.specs.Prelude.{◌≡◌, ◌≤◌, ◌⊎◌, IsUtf8, ℕ, List, [], ◌∷◌, ◌++◌, Bool, true, false, map, length}
 use Rattle.tape_types.specs.Bounds.{most_nodes}
-use Rattle.doc_fields.specs.declared.tags.Tag.{Tag}
-use Rattle.doc_elements.specs.Children.{children_of}
+use Rattle.ltfs_documents.specs.declared.doc_fields.tags.Tag.{Tag}
+use Rattle.ltfs_documents.specs.DocElements.Children.{children_of}
 use Rattle.index_model.specs.declared.errors.IndexErr.{IndexErr}
-use Rattle.doc_elements.specs.declared.schema.Container.TheVariants as place
-use Rattle.doc_elements.specs.Schema.{tag_of}
-use Rattle.doc_elements.specs.Pieces.{Piece, opens, whole, closes, leaf, Frame}
-use Rattle.doc_elements.specs.Documents.{Accepts, Reaches, fresh, with_child}
+use Rattle.ltfs_documents.specs.declared.doc_elements.schema.Container.TheVariants as place
+use Rattle.ltfs_documents.specs.DocElements.Schema.{tag_of}
+use Rattle.ltfs_documents.specs.DocElements.Pieces.{Piece, opens, whole, closes, leaf, Frame}
+use Rattle.ltfs_documents.specs.DocElements.Documents.{Accepts, Reaches, fresh, with_child}
 use Rattle.index_model.specs.Documents.{StopsAs, fault_told}
 use Rattle.index_model.specs.declared.faults.Fault.{Fault}
 use Rattle.index_model.specs.declared.indexes.Index.{Index}

@@ -3,23 +3,23 @@
 ghost use Rattle.std.specs.Prelude.{◌≡◌, ◌<◌, true, ◌++◌, ◌∷◌, [], map, length, IfOk, OnOk};
 ghost use Rattle.std.specs.Option.{option_map};
 ghost use Rattle.tape_types.specs.Times.{civil_of};
-ghost use Rattle.doc_fields.specs.declared.tags.Tag.TheVariants as tags;
+ghost use Rattle.ltfs_documents.specs.declared.doc_fields.tags.Tag.TheVariants as tags;
 ghost use Rattle.index_model.specs.declared.nodes.NodeKind.TheVariants as kinds;
-ghost use Rattle.doc_elements.specs.Elements.{plain};
-ghost use Rattle.doc_elements.specs.Pieces.{bytes, letter, number, words, time, uuid, truth, lock};
+ghost use Rattle.ltfs_documents.specs.DocElements.Elements.{plain};
+ghost use Rattle.ltfs_documents.specs.DocElements.Pieces.{bytes, letter, number, words, time, uuid, truth, lock};
 ghost use Rattle.index_model.specs.Values.{facts_of, value_of, volume_of};
-ghost use Rattle.doc_elements.specs.Answers.{val_of};
+ghost use Rattle.ltfs_documents.specs.DocElements.Answers.{val_of};
 ghost use Rattle.index_read.specs.Drafts.{state_of};
 ghost use Rattle.index_read.specs.Told.{begun, blank, blank_node, blank_volume, blank_xattr, changed, ended, epoch};
 ghost use Rattle.index_read.specs.Told.{extent_with, facts_with, kind_with, leaf_told, node_with, one_more};
 ghost use Rattle.index_read.specs.Told.{policy_with, spot_with, volume_with, with_extent, with_xattr, xattr_with};
 
-use doc_elements::{Container, Value};
-use doc_fields::{LockState, Tag};
 use index_model::{Index, Node, NodeKind, Policy, RawExtent, Spot, TextList};
-use node_keys::Xattr;
+use ltfs_documents::doc_elements::{Container, Value};
+use ltfs_documents::doc_fields::{LockState, Tag};
 use std::alloc::Global;
 use std::mem;
+use tape_types::node_keys::Xattr;
 use tape_types::{Bytes, List, Moment, NoMemory, Text, Times};
 
 const BLANK_SPOT: Spot = Spot {

@@ -3,9 +3,9 @@
 ghost use Rattle.std.specs.Prelude.{◌≡◌, ◌++◌, ◌≤◌, ◌∷◌, [], List, true, drop, length, IfSome, IsTrue, IsUtf8, None};
 ghost use Rattle.std.specs.Prelude.{Some};
 ghost use Rattle.tape_types.specs.Times.{civil_of};
-ghost use Rattle.doc_elements.specs.Children.{Holds};
-ghost use Rattle.doc_fields.specs.declared.tags.Tag.{Tag as TagOf};
-ghost use Rattle.doc_fields.specs.declared.tags.Tag.TheVariants.{PreviousGenerationLocation};
+ghost use Rattle.ltfs_documents.specs.DocElements.Children.{Holds};
+ghost use Rattle.ltfs_documents.specs.declared.doc_fields.tags.Tag.{Tag as TagOf};
+ghost use Rattle.ltfs_documents.specs.declared.doc_fields.tags.Tag.TheVariants.{PreviousGenerationLocation};
 ghost use Rattle.index_model.specs.Grammar.{IndexText};
 ghost use Rattle.index_read.specs.Drafts.{state_of};
 ghost use Rattle.index_read.specs.Fronts.{AreDraftedAlike, AreNamedAlike, AreNumberedAlike, AreRuledAlike};
@@ -14,9 +14,9 @@ ghost use Rattle.index_read.specs.Fronts.{HasBack, IsFront, repointed, with_poin
 use crate::drafts::Draft;
 use crate::guesses::respelled;
 use crate::walking::front_behind;
-use doc_elements::{Children, Container, readable, skip_head};
-use doc_fields::Tag;
 use index_model::{Index, Node, Spot};
+use ltfs_documents::doc_elements::{Children, Container, readable, skip_head};
+use ltfs_documents::doc_fields::Tag;
 use std::alloc::Global;
 use tape_types::{Bytes, Moment, Text};
 

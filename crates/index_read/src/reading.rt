@@ -1,9 +1,9 @@
 //! The text of an index as a whole.
 
 ghost use Rattle.std.specs.Prelude.{◌≡◌, map, IfOk, IfErr};
-ghost use Rattle.doc_elements.specs.declared.schema.Container.TheVariants as place;
-ghost use Rattle.doc_elements.specs.Answers as pieces;
-ghost use Rattle.doc_elements.specs.Documents.{Halts};
+ghost use Rattle.ltfs_documents.specs.declared.doc_elements.schema.Container.TheVariants as place;
+ghost use Rattle.ltfs_documents.specs.DocElements.Answers as pieces;
+ghost use Rattle.ltfs_documents.specs.DocElements.Documents.{Halts};
 ghost use Rattle.index_model.specs.Valid.{Agrees};
 ghost use Rattle.index_model.specs.Values.{value_of, volume_of};
 ghost use Rattle.index_model.specs.declared.indexes.Index.{Index as IndexOf};
@@ -14,10 +14,10 @@ ghost use Rattle.index_read.specs.Walks.{IsReadAs, IsRefused, IsWhole};
 
 use crate::drafts::Draft;
 use crate::walking::walk;
-use doc_elements::{Container, PieceErr, readable, skip_head};
-use doc_fields::skip_space;
-use index_faults::first_fault;
+use index_model::index_faults::first_fault;
 use index_model::{Index, IndexErr};
+use ltfs_documents::doc_elements::{Container, PieceErr, readable, skip_head};
+use ltfs_documents::doc_fields::skip_space;
 use std::alloc::Global;
 use tape_types::{List, NoMemory};
 

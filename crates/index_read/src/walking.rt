@@ -2,22 +2,24 @@
 
 ghost use Rattle.std.specs.Prelude.{◌≡◌, ◌≤◌, ◌<◌, ℕ, List, Ok, true, length, OnOk, IfOk, IfErr, IfSome, IsTrue};
 ghost use Rattle.tape_types.specs.Bounds.{most_nodes};
-ghost use Rattle.doc_elements.specs.Schema.{is_node};
-ghost use Rattle.doc_elements.specs.declared.schema.Container.TheVariants as place;
-ghost use Rattle.doc_elements.specs.Answers.{HasRoom, UnlessMemory, piece_of};
+ghost use Rattle.ltfs_documents.specs.DocElements.Schema.{is_node};
+ghost use Rattle.ltfs_documents.specs.declared.doc_elements.schema.Container.TheVariants as place;
+ghost use Rattle.ltfs_documents.specs.DocElements.Answers.{HasRoom, UnlessMemory, piece_of};
 ghost use Rattle.index_read.specs.Drafts.{state_of};
 ghost use Rattle.index_read.specs.Told.{State, blank, node_in, piece_told};
-ghost use Rattle.doc_elements.specs.Children.{Holds, member};
-ghost use Rattle.doc_elements.specs.Documents.{Halted, head_of};
-ghost use Rattle.doc_fields.specs.declared.tags.Tag.{Tag as TagOf};
-ghost use Rattle.doc_fields.specs.declared.tags.Tag.TheVariants.{Location};
+ghost use Rattle.ltfs_documents.specs.DocElements.Children.{Holds, member};
+ghost use Rattle.ltfs_documents.specs.DocElements.Documents.{Halted, head_of};
+ghost use Rattle.ltfs_documents.specs.declared.doc_fields.tags.Tag.{Tag as TagOf};
+ghost use Rattle.ltfs_documents.specs.declared.doc_fields.tags.Tag.TheVariants.{Location};
 ghost use Rattle.index_read.specs.Fronts.{HasBack, IsFront, IsRootPointed};
 ghost use Rattle.index_read.specs.Walks.{Keeps, Opened, Walked, coded, level_in, opened_after, stacked, with_tag};
 
 use crate::drafts::Draft;
 use crate::fronts::Front;
-use doc_elements::{Children, Container, Frame, Piece, PieceErr, is_node, next_piece, tag_of};
-use doc_fields::Tag;
+use ltfs_documents::doc_elements::{
+    Children, Container, Frame, Piece, PieceErr, is_node, next_piece, tag_of,
+};
+use ltfs_documents::doc_fields::Tag;
 use std::alloc::{AllocError, Global};
 use tape_types::NoMemory;
 

@@ -3,10 +3,10 @@ use Rattle.std.proofs.Common.{◌≡◌, List, ℕ, Ok, Err, Result, OnOk, OnErr
 use Rattle.std.specs.List.{flat_map}
 use Rattle.std.proofs.lemmas.Grind.{flat_map-append}
 use Rattle.std.proofs.lemmas.List.{take_more}
-use Rattle.doc_fields.specs.declared.starts.Attribute.TheVariants.{Absent}
-use Rattle.doc_fields.specs.Written.{Keeps, start_text}
-use Rattle.doc_fields.specs.declared.tags.Tag.TheVariants.{AllowPolicyUpdate, Comment, Creator, File, FileUid, GenerationNumber, HighestFileUid, Length, Location, Name, PreviousGenerationLocation, ReadOnly, UpdateTime, VolumeLockState, VolumeUuid}
-use Rattle.doc_fields.specs.Values.{lock_word}
+use Rattle.ltfs_documents.specs.declared.doc_fields.starts.Attribute.TheVariants.{Absent}
+use Rattle.ltfs_documents.specs.DocFields.Written.{Keeps, start_text}
+use Rattle.ltfs_documents.specs.declared.doc_fields.tags.Tag.TheVariants.{AllowPolicyUpdate, Comment, Creator, File, FileUid, GenerationNumber, HighestFileUid, Length, Location, Name, PreviousGenerationLocation, ReadOnly, UpdateTime, VolumeLockState, VolumeUuid}
+use Rattle.ltfs_documents.specs.DocFields.Values.{lock_word}
 use Rattle.tape_types.specs.Uuids.{uuid_text}
 use Rattle.index_model.specs.Canonical.{attributes, element, if_told, name, number, policy, spot, time, times, truth, volume_text, words}
 use Rattle.index_model.specs.Values.{NodeFacts, VolumeFacts}

@@ -7,11 +7,11 @@ use Rattle.base64.specs.Engines.{standard}
 use Rattle.base64.specs.GeneralPurpose.{encode_of}
 use Rattle.base64.specs.Rfc4648.{encode, encode_symbols, encoded_size, padding_len}
 use Rattle.base64.proofs.RoundTrip.{length-encode_symbols}
-use Rattle.doc_fields.specs.declared.tags.Tag.TheVariants.{ExtendedAttributes, Key, Value}
-use Rattle.doc_fields.specs.declared.tags.Tag.TheVariants as tags
-use Rattle.doc_fields.specs.Written.{end_text, start_text}
-use Rattle.doc_elements.specs.Written.{bytes_text, bytes_type}
-use Rattle.node_keys.specs.declared.xattrs.Xattr.{Xattr}
+use Rattle.ltfs_documents.specs.declared.doc_fields.tags.Tag.TheVariants.{ExtendedAttributes, Key, Value}
+use Rattle.ltfs_documents.specs.declared.doc_fields.tags.Tag.TheVariants as tags
+use Rattle.ltfs_documents.specs.DocFields.Written.{end_text, start_text}
+use Rattle.ltfs_documents.specs.DocElements.Written.{bytes_text, bytes_type}
+use Rattle.tape_types.specs.declared.node_keys.xattrs.Xattr.{Xattr}
 use Rattle.index_model.specs.Canonical.{attributes, element, name, xattr}
 use Rattle.index_write.specs.Parts.{value_text}
 use Rattle.index_write.specs.Sizes.{bounded, size}

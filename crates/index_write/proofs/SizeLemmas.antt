@@ -4,16 +4,16 @@ use Rattle.std.specs.List.{flat_map}
 use Rattle.std.proofs.lemmas.Grind.{flat_map-append}
 use Rattle.std.proofs.lemmas.List.{map-append, take_more}
 use Rattle.std.proofs.lemmas.List.Sums.{sum_by-append}
-use Rattle.doc_fields.specs.declared.starts.Attribute.TheVariants.{Absent, Version}
-use Rattle.doc_fields.specs.declared.tags.Tag.{Tag}
-use Rattle.doc_fields.specs.Written.{bool_text, start_text, end_text, escape}
-use Rattle.doc_fields.specs.declared.tags.Tag.TheVariants.{LtfsIndex, AllowPolicyUpdate, Comment, Creator, GenerationNumber, HighestFileUid, Location, PreviousGenerationLocation, UpdateTime, VolumeLockState, VolumeUuid, AccessTime, BackupTime, ChangeTime, Contents, CreationTime, Directory, ExtentInfo, File, FileUid, Length, ModifyTime, Name, ReadOnly, Symlink}
+use Rattle.ltfs_documents.specs.declared.doc_fields.starts.Attribute.TheVariants.{Absent, Version}
+use Rattle.ltfs_documents.specs.declared.doc_fields.tags.Tag.{Tag}
+use Rattle.ltfs_documents.specs.DocFields.Written.{bool_text, start_text, end_text, escape}
+use Rattle.ltfs_documents.specs.declared.doc_fields.tags.Tag.TheVariants.{LtfsIndex, AllowPolicyUpdate, Comment, Creator, GenerationNumber, HighestFileUid, Location, PreviousGenerationLocation, UpdateTime, VolumeLockState, VolumeUuid, AccessTime, BackupTime, ChangeTime, Contents, CreationTime, Directory, ExtentInfo, File, FileUid, Length, ModifyTime, Name, ReadOnly, Symlink}
 use Rattle.std.specs.Fmt.{decimal}
 use Rattle.tape_types.specs.declared.times.Civil.{Civil}
 use Rattle.tape_types.specs.Times.{civil_text}
 use Rattle.tape_types.specs.Uuids.{uuid_text}
 use Rattle.uuid.specs.Text.{by_index}
-use Rattle.doc_fields.specs.Values.{lock_word}
+use Rattle.ltfs_documents.specs.DocFields.Values.{lock_word}
 use Rattle.index_model.specs.declared.nodes.NodeKind.TheVariants as kinds
 use Rattle.index_model.specs.declared.nodes.Node.{Node}
 use Rattle.index_model.specs.declared.nodes.RawExtent.{RawExtent}

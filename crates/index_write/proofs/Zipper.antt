@@ -7,9 +7,9 @@ use Rattle.index_model.specs.declared.nodes.NodeKind.{NodeKind}
 use Rattle.index_model.specs.declared.nodes.NodeKind.TheVariants as kinds
 use Rattle.index_model.specs.declared.nodes.Node.{Node}
 use Rattle.index_model.specs.Canonical.{attributes, directory_text, name, nodes_text, number, times, truth}
-use Rattle.doc_fields.specs.declared.starts.Attribute.TheVariants.{Absent}
-use Rattle.doc_fields.specs.declared.tags.Tag.TheVariants.{Contents, Directory, FileUid, Name, ReadOnly}
-use Rattle.doc_fields.specs.Written.{end_text, start_text}
+use Rattle.ltfs_documents.specs.declared.doc_fields.starts.Attribute.TheVariants.{Absent}
+use Rattle.ltfs_documents.specs.declared.doc_fields.tags.Tag.TheVariants.{Contents, Directory, FileUid, Name, ReadOnly}
+use Rattle.ltfs_documents.specs.DocFields.Written.{end_text, start_text}
 use Rattle.index_model.specs.Values.{IndexValue, Nodes, no_nodes, directory, file, link, NodeFacts, NodeValue, all_nodes, count, listed, value_in, value_of}
 use Rattle.index_write.specs.declared.nodes.Open.{Open}
 use Rattle.index_write.specs.Parts.{closing, node_text, opening, traits, tree_text}

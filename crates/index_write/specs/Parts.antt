@@ -1,18 +1,18 @@
 -- Parts of the text of an index. Of each node it has all of a file or a link, and of a directory what stands before its
 -- children; the end of a directory follows behind them.
 use Rattle.std.specs.Prelude.{ℕ, List, ◌++◌}
-use Rattle.doc_fields.specs.declared.starts.Attribute.TheVariants.{Absent}
-use Rattle.doc_fields.specs.declared.tags.Tag.TheVariants.{VolumeUuid, Partition, GenerationNumber, UpdateTime}
-use Rattle.doc_fields.specs.declared.tags.Tag.TheVariants.{StartBlock, AllowPolicyUpdate, VolumeLockState}
-use Rattle.doc_fields.specs.declared.tags.Tag.TheVariants.{HighestFileUid, Creator, Comment, Directory, File, FileUid}
-use Rattle.doc_fields.specs.declared.tags.Tag.TheVariants.{Name, ReadOnly, Contents, Value}
+use Rattle.ltfs_documents.specs.declared.doc_fields.starts.Attribute.TheVariants.{Absent}
+use Rattle.ltfs_documents.specs.declared.doc_fields.tags.Tag.TheVariants.{VolumeUuid, Partition, GenerationNumber, UpdateTime}
+use Rattle.ltfs_documents.specs.declared.doc_fields.tags.Tag.TheVariants.{StartBlock, AllowPolicyUpdate, VolumeLockState}
+use Rattle.ltfs_documents.specs.declared.doc_fields.tags.Tag.TheVariants.{HighestFileUid, Creator, Comment, Directory, File, FileUid}
+use Rattle.ltfs_documents.specs.declared.doc_fields.tags.Tag.TheVariants.{Name, ReadOnly, Contents, Value}
 use Rattle.tape_types.specs.Uuids.{uuid_text}
-use Rattle.doc_fields.specs.Values.{lock_word}
-use Rattle.doc_fields.specs.Written.{start_text, end_text}
+use Rattle.ltfs_documents.specs.DocFields.Values.{lock_word}
+use Rattle.ltfs_documents.specs.DocFields.Written.{start_text, end_text}
 use Rattle.index_model.specs.declared.nodes.NodeKind.{NodeKind}
 use Rattle.index_model.specs.declared.nodes.NodeKind.TheVariants as kinds
 use Rattle.index_model.specs.declared.indexes.Spot.{Spot}
-use Rattle.doc_elements.specs.Written.{bytes_text, bytes_type}
+use Rattle.ltfs_documents.specs.DocElements.Written.{bytes_text, bytes_type}
 use Rattle.index_model.specs.Canonical.{element, number, words, time, letter, if_told, policy, name, times, truth}
 use Rattle.index_model.specs.Canonical.{attributes, file_front, file_text, link_text, directory_text, nodes_text}
 use Rattle.index_model.specs.Values.{IndexValue, NodeFacts, NodeValue, VolumeFacts}

@@ -4,7 +4,7 @@ use Rattle.std.specs.List.{sum}
 use Rattle.index_model.specs.declared.nodes.Node.{Node}
 use Rattle.index_model.specs.declared.nodes.NodeKind.{NodeKind}
 use Rattle.index_model.specs.declared.nodes.NodeKind.TheVariants as kinds
-use Rattle.doc_fields.specs.declared.tags.Tag.TheVariants.{FileUid, Name, ReadOnly}
+use Rattle.ltfs_documents.specs.declared.doc_fields.tags.Tag.TheVariants.{FileUid, Name, ReadOnly}
 use Rattle.index_model.specs.Canonical.{attributes, number, name, times, truth, directory_text, file_text, link_text}
 use Rattle.index_model.specs.Values.{NodeFacts, NodeValue, value_of}
 

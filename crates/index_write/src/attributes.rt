@@ -6,17 +6,17 @@ ghost use Rattle.std.specs.List.{flat_map, list_all};
 ghost use Rattle.std.specs.Str.{chars};
 ghost use Rattle.base64.specs.Engines.{standard};
 ghost use Rattle.base64.specs.GeneralPurpose.{encode_of};
-ghost use Rattle.doc_elements.specs.Written.{is_text};
-ghost use Rattle.doc_fields.specs.Texts.{is_allowed};
-ghost use Rattle.doc_fields.specs.Written.{Keeps};
+ghost use Rattle.ltfs_documents.specs.DocElements.Written.{is_text};
+ghost use Rattle.ltfs_documents.specs.DocFields.Texts.{is_allowed};
+ghost use Rattle.ltfs_documents.specs.DocFields.Written.{Keeps};
 ghost use Rattle.index_model.specs.Canonical as canonical;
 ghost use Rattle.index_write.specs.Parts.{value_text};
 
 use crate::fields::{put, put_key, put_words};
 use base64::engine::general_purpose::STANDARD;
-use node_keys::Xattr;
 use std::str;
 use tape_types::NoMemory;
+use tape_types::node_keys::Xattr;
 
 fn is_allowed(c: u32) -> bool
     ensures { result ≡ is_allowed c }
@@ -32,7 +32,7 @@ fn are_allowed(text: &str) -> bool
 }
 
 /// The bytes as a text, where they are one of characters that a document may have.
-#[tactic(auto, using(doc_elements::proofs::Names::utf8_is, doc_elements::proofs::Names::utf8_none))]
+#[tactic(auto, using(ltfs_documents::proofs::DocElements::Names::utf8_is, ltfs_documents::proofs::DocElements::Names::utf8_none))]
 pub fn text_of(bytes: &[u8]) -> Option<&str>
     ensures { MatchOption result (is_text bytes.now ≡ false)
         (λ text. (text.now ≡ bytes.now) × (is_text bytes.now ≡ true)) }

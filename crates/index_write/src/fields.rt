@@ -3,14 +3,14 @@
 
 ghost use Rattle.std.specs.Prelude.{◌≡◌, ◌++◌, ◌∷◌, [], OnOk, OnErr};
 ghost use Rattle.std.specs.Fmt.{decimal};
-ghost use Rattle.doc_fields.specs.Written.{bool_text, escape, Keeps};
-ghost use Rattle.doc_fields.specs.declared.tags.Tag.TheVariants.{Key, Name, Symlink};
+ghost use Rattle.ltfs_documents.specs.DocFields.Written.{bool_text, escape, Keeps};
+ghost use Rattle.ltfs_documents.specs.declared.doc_fields.tags.Tag.TheVariants.{Key, Name, Symlink};
 ghost use Rattle.index_model.specs.Canonical as canonical;
-ghost use Rattle.ltfs_text.specs.Names.{encoded, written};
+ghost use Rattle.ltfs_documents.specs.LtfsText.Names.{encoded, written};
 ghost use Rattle.tape_types.specs.Times.{civil_of, civil_text};
 
-use doc_fields::{put_bool, put_letter, put_text, put_time, put_u64};
-use ltfs_text::{ESCAPED, has_special};
+use ltfs_documents::doc_fields::{put_bool, put_letter, put_text, put_time, put_u64};
+use ltfs_documents::ltfs_text::{ESCAPED, has_special};
 use percent_encoding::percent_encode;
 use tape_types::{Moment, NoMemory};
 

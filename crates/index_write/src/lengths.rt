@@ -5,25 +5,26 @@ ghost use Rattle.std.specs.Fmt.{decimal};
 ghost use Rattle.std.specs.List.{flat_map};
 ghost use Rattle.base64.specs.Engines.{standard};
 ghost use Rattle.base64.specs.GeneralPurpose.{encode_of};
-ghost use Rattle.doc_fields.specs.Values.{lock_word};
-ghost use Rattle.doc_fields.specs.Written.{bool_text, escape, escaped};
-ghost use Rattle.doc_fields.specs.declared.tags.Tag.TheVariants.{Comment, Key, Name, PreviousGenerationLocation};
-ghost use Rattle.doc_fields.specs.declared.tags.Tag.TheVariants.{Symlink, VolumeLockState};
+ghost use Rattle.ltfs_documents.specs.DocFields.Values.{lock_word};
+ghost use Rattle.ltfs_documents.specs.DocFields.Written.{bool_text, escape, escaped};
+ghost use Rattle.ltfs_documents.specs.declared.doc_fields.tags.Tag.TheVariants.{Comment, Key, Name};
+ghost use Rattle.ltfs_documents.specs.declared.doc_fields.tags.Tag.TheVariants.{PreviousGenerationLocation};
+ghost use Rattle.ltfs_documents.specs.declared.doc_fields.tags.Tag.TheVariants.{Symlink, VolumeLockState};
 ghost use Rattle.index_model.specs.Canonical as canonical;
 ghost use Rattle.index_model.specs.Canonical.{canonical};
 ghost use Rattle.index_model.specs.Values.{facts_of, value_of, volume_of, IndexValue, Tells};
 ghost use Rattle.index_write.specs.Parts.{spot_text, value_text, volume_front, volume_rear};
 ghost use Rattle.index_write.specs.Sizes.{bounded, directory_length, facts_length, node_length, nodes_sum, size};
-ghost use Rattle.ltfs_text.specs.Names.{encoded};
+ghost use Rattle.ltfs_documents.specs.LtfsText.Names.{encoded};
 
 use crate::attributes::text_of;
-use doc_fields::LockState;
 use index_model::{Index, Node, NodeKind, Policy, RawExtent, Spot, TextList};
 use itoa::Buffer;
-use ltfs_text::{ESCAPED, has_special};
-use node_keys::Xattr;
+use ltfs_documents::doc_fields::LockState;
+use ltfs_documents::ltfs_text::{ESCAPED, has_special};
 use percent_encoding::percent_encode;
 use tape_types::Text;
+use tape_types::node_keys::Xattr;
 
 /// The sum of these counts, or 2^64 - 1 where it is greater.
 fn total(counts: &[u64]) -> u64
@@ -74,7 +75,7 @@ fn escape_len(text: &[u8]) -> u64
 }
 
 /// The length of the percent-encoded form of a text, with escapes.
-#[tactic(auto, using(ltfs_text::proofs::Texts::encodes_as))]
+#[tactic(auto, using(ltfs_documents::proofs::LtfsText::Texts::encodes_as))]
 fn encoded_len(text: &str) -> u64
     ensures { result ≡ size (escape (encoded text.now)) }
 {

@@ -2,7 +2,7 @@
 
 ghost use Rattle.std.specs.Prelude.{◌≡◌, ◌++◌, ◌+◌, ◌<◌, ◌≤◌, ℕ, List, IfOk, OnOk, OnErr, length, map};
 ghost use Rattle.std.specs.List.{flat_map};
-ghost use Rattle.doc_fields.specs.Written.{Keeps};
+ghost use Rattle.ltfs_documents.specs.DocFields.Written.{Keeps};
 ghost use Rattle.index_model.specs.Canonical as canonical;
 ghost use Rattle.index_model.specs.Values.{facts_of, times_of, value_of, IndexValue, all_nodes};
 ghost use Rattle.index_write.specs.Rests.{closings, opened, parent_at, Goes, Rests};

@@ -2,19 +2,22 @@
 
 ghost use Rattle.std.specs.Prelude.{◌≡◌, ◌++◌, OnOk, OnErr};
 ghost use Rattle.std.specs.List.{flat_map};
-ghost use Rattle.doc_fields.specs.Values.{lock_word};
-ghost use Rattle.doc_fields.specs.Written.{Keeps};
-ghost use Rattle.doc_fields.specs.declared.tags.Tag.TheVariants.{Comment, Location, Name, PreviousGenerationLocation};
-ghost use Rattle.doc_fields.specs.declared.tags.Tag.TheVariants.{UpdateTime, VolumeLockState, VolumeUuid, Creator};
-ghost use Rattle.doc_fields.specs.declared.tags.Tag.TheVariants.{GenerationNumber, AllowPolicyUpdate, HighestFileUid};
+ghost use Rattle.ltfs_documents.specs.DocFields.Values.{lock_word};
+ghost use Rattle.ltfs_documents.specs.DocFields.Written.{Keeps};
+ghost use Rattle.ltfs_documents.specs.declared.doc_fields.tags.Tag.TheVariants.{Comment, Location, Name};
+ghost use Rattle.ltfs_documents.specs.declared.doc_fields.tags.Tag.TheVariants.{PreviousGenerationLocation};
+ghost use Rattle.ltfs_documents.specs.declared.doc_fields.tags.Tag.TheVariants.{UpdateTime, VolumeLockState};
+ghost use Rattle.ltfs_documents.specs.declared.doc_fields.tags.Tag.TheVariants.{VolumeUuid, Creator};
+ghost use Rattle.ltfs_documents.specs.declared.doc_fields.tags.Tag.TheVariants.{GenerationNumber, AllowPolicyUpdate};
+ghost use Rattle.ltfs_documents.specs.declared.doc_fields.tags.Tag.TheVariants.{HighestFileUid};
 ghost use Rattle.index_model.specs.Canonical as canonical;
 ghost use Rattle.index_model.specs.Values.{volume_of};
 ghost use Rattle.index_write.specs.Parts.{spot_text, volume_front, volume_rear};
 ghost use Rattle.tape_types.specs.Uuids as uuids;
 
 use crate::fields::{put, put_moment, put_name, put_number, put_sign, put_truth, put_words};
-use doc_fields::{LockState, put_lock, put_uuid};
 use index_model::{Index, Policy, Spot, TextList};
+use ltfs_documents::doc_fields::{LockState, put_lock, put_uuid};
 use tape_types::{NoMemory, Text};
 
 fn put_comment(out: &mut Vec<u8>, comment: &Option<Text>) -> Result<(), NoMemory>

@@ -1,7 +1,7 @@
 //! The text of an index as a whole.
 
 ghost use Rattle.std.specs.Prelude.{◌≡◌, ◌++◌, OnOk, OnErr};
-ghost use Rattle.doc_fields.specs.Written.{Keeps};
+ghost use Rattle.ltfs_documents.specs.DocFields.Written.{Keeps};
 ghost use Rattle.index_model.specs.Canonical.{canonical};
 ghost use Rattle.index_model.specs.Values.{IndexValue, Tells};
 

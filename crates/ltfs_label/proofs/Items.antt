@@ -3,15 +3,15 @@ use Rattle.std.proofs.Common.{◌≡◌, ◌^◌, ◌<◌, ◌≤◌, ℕ, List,
 use Rattle.std.proofs.lemmas.Bool.Decides.{nat_tests}
 use Rattle.tape_types.specs.declared.moments.Moment.{Moment}
 use Rattle.tape_types.specs.Times.{civil_of}
-use Rattle.doc_fields.specs.declared.tags.Tag.TheVariants.{Creator, FormatTime, VolumeUuid, Location, Partition, Partitions, IndexLetter, DataLetter, BlockSize, Compression}
-use Rattle.doc_fields.specs.Texts.{IsWritable}
-use Rattle.doc_fields.proofs.WrittenBytes.{decimal_valid}
-use Rattle.doc_elements.specs.declared.schema.Form.TheVariants as form
-use Rattle.doc_elements.specs.declared.schema.Container.TheVariants as place
-use Rattle.doc_elements.specs.Elements.{Items, item, nested, no_items, plain}
-use Rattle.doc_elements.specs.Pieces.{words, time, uuid, letter, number, truth}
-use Rattle.doc_elements.proofs.WrittenItems.{GoodItems, ReadsBack, texts_of}
-use Rattle.doc_elements.proofs.WrittenValues.{creator_back, letter_back, number_in_back, time_back, truth_back, uuid_back}
+use Rattle.ltfs_documents.specs.declared.doc_fields.tags.Tag.TheVariants.{Creator, FormatTime, VolumeUuid, Location, Partition, Partitions, IndexLetter, DataLetter, BlockSize, Compression}
+use Rattle.ltfs_documents.specs.DocFields.Texts.{IsWritable}
+use Rattle.ltfs_documents.proofs.DocFields.WrittenBytes.{decimal_valid}
+use Rattle.ltfs_documents.specs.declared.doc_elements.schema.Form.TheVariants as form
+use Rattle.ltfs_documents.specs.declared.doc_elements.schema.Container.TheVariants as place
+use Rattle.ltfs_documents.specs.DocElements.Elements.{Items, item, nested, no_items, plain}
+use Rattle.ltfs_documents.specs.DocElements.Pieces.{words, time, uuid, letter, number, truth}
+use Rattle.ltfs_documents.proofs.DocElements.WrittenItems.{GoodItems, ReadsBack, texts_of}
+use Rattle.ltfs_documents.proofs.DocElements.WrittenValues.{creator_back, letter_back, number_in_back, time_back, truth_back, uuid_back}
 use Rattle.ltfs_label.specs.Canonical.{children_text, element, in_block_range, IsLabel, leaf_text}
 use Rattle.ltfs_label.specs.Values.{LabelValue}
 

@@ -4,35 +4,35 @@ use Rattle.std.specs.Prelude.{⊤, IsSome}
 use Rattle.std.specs.List.{AllByRecursion}
 use Rattle.std.proofs.lemmas.Bool.Decides.{nat_tests}
 use Rattle.tape_types.specs.Bounds.{most_nodes}
-use Rattle.doc_fields.specs.declared.starts.Start.{Start}
-use Rattle.doc_fields.specs.declared.tags.Tag.{Tag}
-use Rattle.doc_fields.specs.declared.tags.Tag.TheVariants.{LtfsLabel, Creator, FormatTime, VolumeUuid, Partition, IndexLetter, DataLetter, BlockSize, Compression}
-use Rattle.doc_fields.specs.declared.errors.Why.{Why}
-use Rattle.doc_fields.specs.declared.errors.Why.TheVariants as why
-use Rattle.doc_fields.specs.Reading.{Read, byte}
-use Rattle.doc_fields.specs.Space.{space_end}
-use Rattle.doc_fields.specs.EndTag.{end_at}
-use Rattle.doc_fields.specs.Numbers.{number_at}
-use Rattle.doc_fields.specs.Texts.{text_at}
-use Rattle.doc_fields.specs.Values.{bool_at, letter_at, lock_at, time_at, uuid_at}
-use Rattle.doc_fields.specs.StartTag.{named_at, rest_at}
-use Rattle.doc_fields.specs.Declaration.{head_at}
-use Rattle.doc_elements.specs.Children.{first_missing, member}
-use Rattle.doc_elements.specs.declared.errors.PieceErr.{PieceErr}
-use Rattle.doc_elements.specs.declared.errors.PieceErr.TheVariants as pieces
-use Rattle.doc_elements.specs.declared.schema.Child.{Child}
-use Rattle.doc_elements.specs.declared.schema.Child.TheVariants as child
-use Rattle.doc_elements.specs.declared.schema.Form.{Form}
-use Rattle.doc_elements.specs.declared.schema.Form.TheVariants as form
-use Rattle.doc_elements.specs.declared.schema.Container.{Container}
-use Rattle.doc_elements.specs.declared.schema.Container.TheVariants as place
-use Rattle.doc_elements.specs.Answers as answers
-use Rattle.doc_elements.specs.Documents.{Halts, Point, Reaches, StopsAt, after, at_end, at_head, at_piece, begins, counted, fresh, head_of, readable, root_at, root_only}
-use Rattle.doc_elements.specs.Elements.{AllSpelled, DocumentText, Item, Items, Spelled, bare, item, item_tag, nested, no_items, node_count, nodes_of, plain}
-use Rattle.doc_elements.specs.Pieces.{Frame, Piece, Val, ◌>>=◌, beside, child_at, close_at, closes, empty_value, has_any, if_known, in_range, is_too_great, leaf, leaf_at, least, letter, lift, lock, made, none_missing, number, number_in, opens, opens_node, piece_at, refusal, spaced, time, truth, unknown_by, unknown_first, uuid, value_in, verdict, whole}
-use Rattle.doc_elements.specs.Schema.{excludes, is_node, label_rule, letters_rule, may_repeat, own_rule, required, rule, tag_of}
-use Rattle.doc_elements.proofs.Inversion.{What, bind_ok, piece_is, unless_ok, verdict_ok}
-use Rattle.doc_elements.proofs.Steps.{point}
+use Rattle.ltfs_documents.specs.declared.doc_fields.starts.Start.{Start}
+use Rattle.ltfs_documents.specs.declared.doc_fields.tags.Tag.{Tag}
+use Rattle.ltfs_documents.specs.declared.doc_fields.tags.Tag.TheVariants.{LtfsLabel, Creator, FormatTime, VolumeUuid, Partition, IndexLetter, DataLetter, BlockSize, Compression}
+use Rattle.ltfs_documents.specs.declared.doc_fields.errors.Why.{Why}
+use Rattle.ltfs_documents.specs.declared.doc_fields.errors.Why.TheVariants as why
+use Rattle.ltfs_documents.specs.DocFields.Reading.{Read, byte}
+use Rattle.ltfs_documents.specs.DocFields.Space.{space_end}
+use Rattle.ltfs_documents.specs.DocFields.EndTag.{end_at}
+use Rattle.ltfs_documents.specs.DocFields.Numbers.{number_at}
+use Rattle.ltfs_documents.specs.DocFields.Texts.{text_at}
+use Rattle.ltfs_documents.specs.DocFields.Values.{bool_at, letter_at, lock_at, time_at, uuid_at}
+use Rattle.ltfs_documents.specs.DocFields.StartTag.{named_at, rest_at}
+use Rattle.ltfs_documents.specs.DocFields.Declaration.{head_at}
+use Rattle.ltfs_documents.specs.DocElements.Children.{first_missing, member}
+use Rattle.ltfs_documents.specs.declared.doc_elements.errors.PieceErr.{PieceErr}
+use Rattle.ltfs_documents.specs.declared.doc_elements.errors.PieceErr.TheVariants as pieces
+use Rattle.ltfs_documents.specs.declared.doc_elements.schema.Child.{Child}
+use Rattle.ltfs_documents.specs.declared.doc_elements.schema.Child.TheVariants as child
+use Rattle.ltfs_documents.specs.declared.doc_elements.schema.Form.{Form}
+use Rattle.ltfs_documents.specs.declared.doc_elements.schema.Form.TheVariants as form
+use Rattle.ltfs_documents.specs.declared.doc_elements.schema.Container.{Container}
+use Rattle.ltfs_documents.specs.declared.doc_elements.schema.Container.TheVariants as place
+use Rattle.ltfs_documents.specs.DocElements.Answers as answers
+use Rattle.ltfs_documents.specs.DocElements.Documents.{Halts, Point, Reaches, StopsAt, after, at_end, at_head, at_piece, begins, counted, fresh, head_of, readable, root_at, root_only}
+use Rattle.ltfs_documents.specs.DocElements.Elements.{AllSpelled, DocumentText, Item, Items, Spelled, bare, item, item_tag, nested, no_items, node_count, nodes_of, plain}
+use Rattle.ltfs_documents.specs.DocElements.Pieces.{Frame, Piece, Val, ◌>>=◌, beside, child_at, close_at, closes, empty_value, has_any, if_known, in_range, is_too_great, leaf, leaf_at, least, letter, lift, lock, made, none_missing, number, number_in, opens, opens_node, piece_at, refusal, spaced, time, truth, unknown_by, unknown_first, uuid, value_in, verdict, whole}
+use Rattle.ltfs_documents.specs.DocElements.Schema.{excludes, is_node, label_rule, letters_rule, may_repeat, own_rule, required, rule, tag_of}
+use Rattle.ltfs_documents.proofs.DocElements.Inversion.{What, bind_ok, piece_is, unless_ok, verdict_ok}
+use Rattle.ltfs_documents.proofs.DocElements.Steps.{point}
 use Rattle.ltfs_label.specs.Reading.{FitsBlock, told}
 
 -- ---- the parents of a label

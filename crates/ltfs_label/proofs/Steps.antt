@@ -1,13 +1,13 @@
 -- One piece more.
 use Rattle.std.proofs.Common.{◌≡◌, ℕ, List, [], ◌∷◌, ◌++◌, Bool, true, false, Result, Ok, Err, refl, sym, ap, subst, ◌∙◌}
-use Rattle.doc_elements.specs.declared.errors.PieceErr.{PieceErr}
-use Rattle.doc_elements.specs.declared.pieces.Frame as code_frame
-use Rattle.doc_elements.specs.declared.schema.Container.{Container}
-use Rattle.doc_elements.specs.declared.schema.Container.TheVariants as place
-use Rattle.doc_elements.specs.Answers.{Fails, UnlessMemory}
-use Rattle.doc_elements.specs.Documents.{Halted, Reaches, after, counted, fresh}
-use Rattle.doc_elements.specs.Pieces.{Piece, Frame, piece_at}
-use Rattle.doc_elements.proofs.Steps.{point, reaches_more, unless_memory}
+use Rattle.ltfs_documents.specs.declared.doc_elements.errors.PieceErr.{PieceErr}
+use Rattle.ltfs_documents.specs.declared.doc_elements.pieces.Frame as code_frame
+use Rattle.ltfs_documents.specs.declared.doc_elements.schema.Container.{Container}
+use Rattle.ltfs_documents.specs.declared.doc_elements.schema.Container.TheVariants as place
+use Rattle.ltfs_documents.specs.DocElements.Answers.{Fails, UnlessMemory}
+use Rattle.ltfs_documents.specs.DocElements.Documents.{Halted, Reaches, after, counted, fresh}
+use Rattle.ltfs_documents.specs.DocElements.Pieces.{Piece, Frame, piece_at}
+use Rattle.ltfs_documents.proofs.DocElements.Steps.{point, reaches_more, unless_memory}
 use Rattle.ltfs_label.specs.Reading.{Keeps, Walked, coded, set, value_from}
 use Rattle.ltfs_label.specs.Values.{LabelValue, blank}
 use Rattle.ltfs_label.proofs.Places.{none_begun, reached_top}

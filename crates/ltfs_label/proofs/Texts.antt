@@ -2,20 +2,20 @@
 use Rattle.std.proofs.Common.{◌≡◌, ◌⊎◌, ℕ, List, [], ◌∷◌, ◌++◌, length, IsUtf8, Bool, true, false, Option, Some, None, Result, Ok, Err, IfOk, IfErr, inl, inr, ⊎_elim, refl, sym, ap, subst, ◌∙◌}
 use Rattle.std.specs.Prelude.{IsSome}
 use Rattle.std.specs.List.{AllByRecursion}
-use Rattle.doc_fields.specs.declared.tags.Tag.{Tag}
-use Rattle.doc_fields.specs.declared.tags.Tag.TheVariants.{Creator, FormatTime, VolumeUuid, Partition, IndexLetter, DataLetter, BlockSize, Compression}
-use Rattle.doc_fields.proofs.Moments.{HasMoment}
-use Rattle.doc_elements.specs.declared.errors.PieceErr.{PieceErr}
-use Rattle.doc_elements.specs.declared.errors.PieceErr.TheVariants as pieces
-use Rattle.doc_elements.specs.declared.schema.Container.TheVariants as place
-use Rattle.doc_elements.specs.Answers as answers
-use Rattle.doc_elements.specs.Documents.{Accepts, Halts, IsAccepted, IsStopped, StopsAt, readable}
-use Rattle.doc_elements.specs.Elements.{IsTimed, IsTimedPiece, all_pieces}
-use Rattle.doc_elements.specs.Pieces.{Piece, Val, closes, leaf, letter, number, time, truth, uuid, words}
-use Rattle.doc_elements.proofs.Ends.{accepted_or_stops}
-use Rattle.doc_elements.proofs.Once as once
-use Rattle.doc_elements.proofs.Timed.{reached_timed}
-use Rattle.doc_elements.proofs.Trees.{accepted, elements_of}
+use Rattle.ltfs_documents.specs.declared.doc_fields.tags.Tag.{Tag}
+use Rattle.ltfs_documents.specs.declared.doc_fields.tags.Tag.TheVariants.{Creator, FormatTime, VolumeUuid, Partition, IndexLetter, DataLetter, BlockSize, Compression}
+use Rattle.ltfs_documents.proofs.DocFields.Moments.{HasMoment}
+use Rattle.ltfs_documents.specs.declared.doc_elements.errors.PieceErr.{PieceErr}
+use Rattle.ltfs_documents.specs.declared.doc_elements.errors.PieceErr.TheVariants as pieces
+use Rattle.ltfs_documents.specs.declared.doc_elements.schema.Container.TheVariants as place
+use Rattle.ltfs_documents.specs.DocElements.Answers as answers
+use Rattle.ltfs_documents.specs.DocElements.Documents.{Accepts, Halts, IsAccepted, IsStopped, StopsAt, readable}
+use Rattle.ltfs_documents.specs.DocElements.Elements.{IsTimed, IsTimedPiece, all_pieces}
+use Rattle.ltfs_documents.specs.DocElements.Pieces.{Piece, Val, closes, leaf, letter, number, time, truth, uuid, words}
+use Rattle.ltfs_documents.proofs.DocElements.Ends.{accepted_or_stops}
+use Rattle.ltfs_documents.proofs.DocElements.Once as once
+use Rattle.ltfs_documents.proofs.DocElements.Timed.{reached_timed}
+use Rattle.ltfs_documents.proofs.DocElements.Trees.{accepted, elements_of}
 use Rattle.ltfs_label.specs.declared.Label.{Label}
 use Rattle.ltfs_label.specs.declared.errors.LabelErr.{LabelErr}
 use Rattle.ltfs_label.specs.declared.errors.LabelErr.TheVariants as errors

@@ -2,14 +2,14 @@
 use Rattle.std.proofs.Common.{◌≡◌, ◌^◌, ◌<◌, ℕ, List, [], ◌∷◌, ◌++◌, IsUtf8, refl, sym, ap, ◌∙◌, append_assoc}
 use Rattle.tape_types.specs.declared.moments.Moment.{Moment}
 use Rattle.tape_types.specs.Times.{civil_of}
-use Rattle.doc_fields.specs.declared.tags.Tag.TheVariants.{LtfsLabel}
-use Rattle.doc_fields.specs.declared.starts.Attribute.TheVariants.{Version}
-use Rattle.doc_fields.specs.Tags.{spelled}
-use Rattle.doc_fields.specs.Written.{end_text, start_text}
-use Rattle.doc_elements.specs.declared.schema.Container.TheVariants as place
-use Rattle.doc_elements.proofs.Written.{framed, inner, written_document}
-use Rattle.doc_elements.proofs.WrittenAgain.{all_again, all_valid}
-use Rattle.doc_elements.proofs.WrittenItems.{texts_of}
+use Rattle.ltfs_documents.specs.declared.doc_fields.tags.Tag.TheVariants.{LtfsLabel}
+use Rattle.ltfs_documents.specs.declared.doc_fields.starts.Attribute.TheVariants.{Version}
+use Rattle.ltfs_documents.specs.DocFields.Tags.{spelled}
+use Rattle.ltfs_documents.specs.DocFields.Written.{end_text, start_text}
+use Rattle.ltfs_documents.specs.declared.doc_elements.schema.Container.TheVariants as place
+use Rattle.ltfs_documents.proofs.DocElements.Written.{framed, inner, written_document}
+use Rattle.ltfs_documents.proofs.DocElements.WrittenAgain.{all_again, all_valid}
+use Rattle.ltfs_documents.proofs.DocElements.WrittenItems.{texts_of}
 use Rattle.ltfs_label.specs.Canonical.{canonical, head, IsLabel}
 use Rattle.ltfs_label.specs.Grammar.{LabelText}
 use Rattle.ltfs_label.specs.Values.{LabelValue}

@@ -5,17 +5,17 @@ use Rattle.std.specs.List.{list_all}
 use Rattle.std.specs.Str.{chars}
 use Rattle.tape_types.specs.Times.{civil_text}
 use Rattle.tape_types.specs.Uuids.{uuid_text}
-use Rattle.doc_fields.specs.declared.tags.Tag.{Tag}
-use Rattle.doc_fields.specs.declared.tags.Tag.TheVariants.{LtfsLabel, Creator, FormatTime, VolumeUuid, Location}
-use Rattle.doc_fields.specs.declared.tags.Tag.TheVariants.{Partition, Partitions, IndexLetter, DataLetter, BlockSize}
-use Rattle.doc_fields.specs.declared.tags.Tag.TheVariants.{Compression}
-use Rattle.doc_fields.specs.declared.starts.Attribute.TheVariants.{Absent, Version}
-use Rattle.doc_fields.specs.Texts.{is_allowed}
-use Rattle.doc_fields.specs.Values.{lock_word}
-use Rattle.doc_fields.specs.Written.{start_text, end_text, bool_text, escape}
-use Rattle.doc_elements.specs.Pieces.{Val, words, time, uuid, letter, number, truth, lock, bytes}
-use Rattle.doc_elements.specs.Written.{bytes_text}
-pub use Rattle.doc_elements.specs.Written.{element, head}
+use Rattle.ltfs_documents.specs.declared.doc_fields.tags.Tag.{Tag}
+use Rattle.ltfs_documents.specs.declared.doc_fields.tags.Tag.TheVariants.{LtfsLabel, Creator, FormatTime, VolumeUuid, Location}
+use Rattle.ltfs_documents.specs.declared.doc_fields.tags.Tag.TheVariants.{Partition, Partitions, IndexLetter, DataLetter, BlockSize}
+use Rattle.ltfs_documents.specs.declared.doc_fields.tags.Tag.TheVariants.{Compression}
+use Rattle.ltfs_documents.specs.declared.doc_fields.starts.Attribute.TheVariants.{Absent, Version}
+use Rattle.ltfs_documents.specs.DocFields.Texts.{is_allowed}
+use Rattle.ltfs_documents.specs.DocFields.Values.{lock_word}
+use Rattle.ltfs_documents.specs.DocFields.Written.{start_text, end_text, bool_text, escape}
+use Rattle.ltfs_documents.specs.DocElements.Pieces.{Val, words, time, uuid, letter, number, truth, lock, bytes}
+use Rattle.ltfs_documents.specs.DocElements.Written.{bytes_text}
+pub use Rattle.ltfs_documents.specs.DocElements.Written.{element, head}
 use Rattle.ltfs_label.specs.Values.{LabelValue}
 
 -- a block has 4,096 to 1,048,576 bytes

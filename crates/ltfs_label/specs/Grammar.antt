@@ -1,7 +1,7 @@
 -- What a label's text is (LTFS 2.4 on the format label).
 use Rattle.std.specs.Prelude.{◌≡◌, ℕ, List}
-use Rattle.doc_elements.specs.declared.schema.Container.TheVariants as place
-use Rattle.doc_elements.specs.Elements.{Items, DocumentText, all_pieces}
+use Rattle.ltfs_documents.specs.declared.doc_elements.schema.Container.TheVariants as place
+use Rattle.ltfs_documents.specs.DocElements.Elements.{Items, DocumentText, all_pieces}
 use Rattle.ltfs_label.specs.Values.{LabelValue, blank}
 use Rattle.ltfs_label.specs.Reading.{value_from}
 

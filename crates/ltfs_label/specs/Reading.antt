@@ -1,14 +1,14 @@
 -- What the pieces of a label tell, one after the other, and why a text is no label.
 use Rattle.std.specs.Prelude.{◌≡◌, ◌≤◌, ⊤, ℕ, List, [], ◌∷◌, ◌++◌, Bool, true, false, Option, Some, None, Result, Ok}
 use Rattle.std.specs.Prelude.{Err}
-use Rattle.doc_fields.specs.declared.tags.Tag.TheVariants.{BlockSize}
-use Rattle.doc_elements.specs.Children.{children_of}
-use Rattle.doc_elements.specs.declared.errors.PieceErr.{PieceErr}
-use Rattle.doc_elements.specs.declared.errors.PieceErr.TheVariants as pieces
-use Rattle.doc_elements.specs.declared.pieces.Frame as code_frame
-use Rattle.doc_elements.specs.declared.schema.Container.TheVariants as place
-use Rattle.doc_elements.specs.Documents.{Accepts, Reaches, StopsAt, fresh}
-use Rattle.doc_elements.specs.Pieces.{Piece, opens, whole, closes, leaf, Frame, number}
+use Rattle.ltfs_documents.specs.declared.doc_fields.tags.Tag.TheVariants.{BlockSize}
+use Rattle.ltfs_documents.specs.DocElements.Children.{children_of}
+use Rattle.ltfs_documents.specs.declared.doc_elements.errors.PieceErr.{PieceErr}
+use Rattle.ltfs_documents.specs.declared.doc_elements.errors.PieceErr.TheVariants as pieces
+use Rattle.ltfs_documents.specs.declared.doc_elements.pieces.Frame as code_frame
+use Rattle.ltfs_documents.specs.declared.doc_elements.schema.Container.TheVariants as place
+use Rattle.ltfs_documents.specs.DocElements.Documents.{Accepts, Reaches, StopsAt, fresh}
+use Rattle.ltfs_documents.specs.DocElements.Pieces.{Piece, opens, whole, closes, leaf, Frame, number}
 use Rattle.ltfs_label.specs.declared.Label.{Label}
 use Rattle.ltfs_label.specs.declared.errors.LabelErr.{LabelErr}
 use Rattle.ltfs_label.specs.declared.errors.LabelErr.TheVariants as errors

@@ -1,13 +1,13 @@
 -- The value of a label.
 use Rattle.std.specs.Prelude.{ℕ, pos, List, [], Bool, false}
 use lib.Dec.{lit<}
-use Rattle.doc_fields.specs.declared.tags.Tag.{Tag}
-use Rattle.doc_fields.specs.declared.tags.Tag.TheVariants.{Creator, FormatTime, VolumeUuid, Partition, IndexLetter}
-use Rattle.doc_fields.specs.declared.tags.Tag.TheVariants.{DataLetter, BlockSize, Compression}
+use Rattle.ltfs_documents.specs.declared.doc_fields.tags.Tag.{Tag}
+use Rattle.ltfs_documents.specs.declared.doc_fields.tags.Tag.TheVariants.{Creator, FormatTime, VolumeUuid, Partition, IndexLetter}
+use Rattle.ltfs_documents.specs.declared.doc_fields.tags.Tag.TheVariants.{DataLetter, BlockSize, Compression}
 use Rattle.tape_types.specs.declared.moments.Moment.{Moment}
 use Rattle.tape_types.specs.declared.times.Civil.{Civil}
 use Rattle.tape_types.specs.Times.{civil_of}
-use Rattle.doc_elements.specs.Pieces.{Val, words, time, uuid, letter, number, truth}
+use Rattle.ltfs_documents.specs.DocElements.Pieces.{Val, words, time, uuid, letter, number, truth}
 use Rattle.ltfs_label.specs.declared.Label.{Label}
 
 -- the value of a label, its moment as a date and a time of day

@@ -3,8 +3,8 @@
 ghost use Rattle.std.specs.Prelude.{◌≡◌, IsSome, Some};
 ghost use Rattle.ltfs_label.specs.Reading.{told};
 
-use doc_elements::PieceErr;
-use doc_fields::Tag;
+use ltfs_documents::doc_elements::PieceErr;
+use ltfs_documents::doc_fields::Tag;
 
 /// Why a text is no label: what is wrong with the first piece that doesn't fit, and where.
 /// Places are offsets in bytes.

@@ -1,9 +1,9 @@
 //! The text of a label as a whole.
 
 ghost use Rattle.std.specs.Prelude.{◌≡◌, ℕ, List, IfOk, IfErr};
-ghost use Rattle.doc_elements.specs.declared.schema.Container.TheVariants as place;
-ghost use Rattle.doc_elements.specs.Answers as pieces;
-ghost use Rattle.doc_elements.specs.Documents.{Halts};
+ghost use Rattle.ltfs_documents.specs.declared.doc_elements.schema.Container.TheVariants as place;
+ghost use Rattle.ltfs_documents.specs.DocElements.Answers as pieces;
+ghost use Rattle.ltfs_documents.specs.DocElements.Documents.{Halts};
 ghost use Rattle.ltfs_label.specs.declared.errors.LabelErr.{LabelErr};
 ghost use Rattle.ltfs_label.specs.Grammar.{LabelText};
 ghost use Rattle.ltfs_label.specs.Reading.{IsReadOr, Reads, Stops, UnlessMemory};
@@ -12,8 +12,8 @@ ghost use Rattle.ltfs_label.specs.Values.{LabelValue, label_of};
 use crate::Label;
 use crate::errors::{LabelErr, told};
 use crate::walking::walk;
-use doc_elements::{Container, PieceErr, readable, skip_head};
-use doc_fields::skip_space;
+use ltfs_documents::doc_elements::{Container, PieceErr, readable, skip_head};
+use ltfs_documents::doc_fields::skip_space;
 use std::alloc::Global;
 
 /// The label that a text is, as far as it is UTF-8.

@@ -2,16 +2,18 @@
 
 ghost use Rattle.std.specs.Prelude.{◌≡◌, ◌≤◌, ◌<◌, List, length, IfOk, IfErr};
 ghost use Rattle.tape_types.specs.Times.{civil_of};
-ghost use Rattle.doc_elements.specs.declared.schema.Container.TheVariants as place;
-ghost use Rattle.doc_elements.specs.Answers.{UnlessMemory, piece_of, val_of};
-ghost use Rattle.doc_elements.specs.Documents.{Halted, after};
-ghost use Rattle.doc_elements.specs.Pieces as pieces;
+ghost use Rattle.ltfs_documents.specs.declared.doc_elements.schema.Container.TheVariants as place;
+ghost use Rattle.ltfs_documents.specs.DocElements.Answers.{UnlessMemory, piece_of, val_of};
+ghost use Rattle.ltfs_documents.specs.DocElements.Documents.{Halted, after};
+ghost use Rattle.ltfs_documents.specs.DocElements.Pieces as pieces;
 ghost use Rattle.ltfs_label.specs.Reading.{FitsBlock, Keeps, Walked, coded, set, stacked};
 ghost use Rattle.ltfs_label.specs.Values.{blank, epoch, label_of, set_leaf};
 
 use crate::Label;
-use doc_elements::{Children, Container, Frame, Piece, PieceErr, Value, next_piece, tag_of};
-use doc_fields::Tag;
+use ltfs_documents::doc_elements::{
+    Children, Container, Frame, Piece, PieceErr, Value, next_piece, tag_of,
+};
+use ltfs_documents::doc_fields::Tag;
 use std::alloc::{AllocError, Global};
 use tape_types::{Moment, Text};
 

@@ -1,16 +1,17 @@
 //! The one text of a label that is written.
 
 ghost use Rattle.std.specs.Prelude.{◌≡◌, ◌++◌, IfOk, OnOk};
-ghost use Rattle.doc_fields.specs.declared.tags.Tag.TheVariants.{DataLetter, IndexLetter, Location, Partition};
-ghost use Rattle.doc_fields.specs.declared.tags.Tag.TheVariants.{Partitions};
+ghost use Rattle.ltfs_documents.specs.declared.doc_fields.tags.Tag.TheVariants.{DataLetter, IndexLetter, Location};
+ghost use Rattle.ltfs_documents.specs.declared.doc_fields.tags.Tag.TheVariants.{Partition};
+ghost use Rattle.ltfs_documents.specs.declared.doc_fields.tags.Tag.TheVariants.{Partitions};
 ghost use Rattle.ltfs_label.specs.Canonical.{canonical, children_text, element, IsLabel, leaf_text};
 ghost use Rattle.ltfs_label.specs.Grammar.{LabelText};
-ghost use Rattle.doc_elements.specs.Pieces as pieces;
+ghost use Rattle.ltfs_documents.specs.DocElements.Pieces as pieces;
 ghost use Rattle.ltfs_label.specs.Values.{label_of};
 ghost use Rattle.tape_types.specs.Times.{civil_of};
 
 use crate::Label;
-use doc_fields::{
+use ltfs_documents::doc_fields::{
     Attribute, Tag, put_bool, put_end, put_letter, put_start, put_text, put_time, put_u64, put_uuid,
 };
 use std::alloc::Global;

@@ -26,11 +26,11 @@ use Rattle.session_script.specs.declared.logs.Reply.{Reply}
 use Rattle.session_script.specs.declared.logs.Reply.TheVariants as replies
 use Rattle.mount_recover.proofs.ExtentLemmas.{parted}
 use Rattle.space_laws.specs.Standing.{Given}
-use Rattle.serving_promise.specs.Acks.{AreAcks}
-use Rattle.serving_promise.specs.Replies.{AreReplies, Facts, IsReply, facts_at}
-use Rattle.order_laws.proofs.Acked.{has_synced_place, synced_at}
-use Rattle.order_laws.proofs.Lists.{at_some}
-use Rattle.order_laws.proofs.Rising.{All_from, has}
+use Rattle.promises.specs.ServingPromise.Acks.{AreAcks}
+use Rattle.promises.specs.ServingPromise.Replies.{AreReplies, Facts, IsReply, facts_at}
+use Rattle.promises.proofs.OrderLaws.Acked.{has_synced_place, synced_at}
+use Rattle.promises.proofs.OrderLaws.Lists.{at_some}
+use Rattle.promises.proofs.OrderLaws.Rising.{All_from, has}
 
 -- a place at which a sync is done
 pub record IsDoneSync (g : Given) (history : List Placed) (k : ℕ) : Type 0 where

@@ -17,14 +17,14 @@ use Rattle.tape_drive.proofs.Since.{since_gave}
 use Rattle.cartridge_meaning.specs.Carried.{Carried}
 use Rattle.cartridge_meaning.specs.Notes.{HasHonestNotes}
 use Rattle.cartridge_meaning.proofs.Honest.{honest_notes}
-use Rattle.serving_promise.specs.Crash.{IsSound}
-use Rattle.serving_promise.specs.Headline.{tree_of_log}
-use Rattle.serving_promise.specs.Meanings.{cartridges}
-use Rattle.order_laws.specs.Kept.{seen}
+use Rattle.promises.specs.ServingPromise.Crash.{IsSound}
+use Rattle.promises.specs.ServingPromise.Headline.{tree_of_log}
+use Rattle.promises.specs.ServingPromise.Meanings.{cartridges}
+use Rattle.promises.specs.OrderLaws.Kept.{seen}
 use Rattle.run_laws.specs.Memory.{IsReady}
 use Rattle.run_laws.proofs.Images.{new_ready}
-use Rattle.command_line.specs.Forms.{IsServe}
-use Rattle.basic_commands.specs.Runs.{IsScriptIn, Taken, Written}
+use Rattle.commands.specs.CommandLine.Forms.{IsServe}
+use Rattle.commands.specs.BasicCommands.Runs.{IsScriptIn, Taken, Written}
 use Rattle.session_run.specs.Timed.{one_moment}
 use Rattle.ltfs_server.specs.Again.{HoldsLog, IsReadyAgain}
 use Rattle.ltfs_server.specs.Outcomes.{Run}

@@ -16,39 +16,39 @@ use Rattle.cartridge_meaning.specs.declared.errors.MountErr.TheVariants as error
 use Rattle.format_volume.specs.Writes.{Goes}
 use Rattle.format_volume.specs.declared.requests.FormatErr.TheVariants as refusals
 use Rattle.format_volume.proofs.WriteLemmas.{goes_still}
-use Rattle.command_line.specs.Forms.{HasNoForm, IsFormat, IsFormatWords, IsGenerations, IsLabel, IsList, IsMake, IsMakeWords, IsPlain, IsPlainWords, IsServe, IsServeWords, IsSpelledBy, IsView, IsViewWords, count_told, make_app}
-use Rattle.command_line.specs.Options.{IsMomentGiven, value_of}
-use Rattle.command_line.specs.declared.views.ViewWords.{ViewWords}
-use Rattle.command_line.specs.declared.volumes.FormatWords.{FormatWords}
-use Rattle.command_line.specs.declared.forms.WordsErr.{WordsErr}
-use Rattle.command_line.specs.declared.forms.WordsErr.TheVariants as word_errors
-use Rattle.command_line.specs.declared.reading.Command.{Command}
-use Rattle.command_line.specs.declared.reading.Command.TheVariants as commands
-use Rattle.command_line.proofs.FormLemmas.{format_named, generations_named, label_named, list_named, make_named, names_differ, one_form, one_make, one_serve, plain_named, serve_named, view_named}
-use Rattle.command_line.proofs.ViewLemmas.{one_view}
-use Rattle.command_line.proofs.VolumeLemmas.{one_format}
+use Rattle.commands.specs.CommandLine.Forms.{HasNoForm, IsFormat, IsFormatWords, IsGenerations, IsLabel, IsList, IsMake, IsMakeWords, IsPlain, IsPlainWords, IsServe, IsServeWords, IsSpelledBy, IsView, IsViewWords, count_told, make_app}
+use Rattle.commands.specs.CommandLine.Options.{IsMomentGiven, value_of}
+use Rattle.commands.specs.declared.command_line.views.ViewWords.{ViewWords}
+use Rattle.commands.specs.declared.command_line.volumes.FormatWords.{FormatWords}
+use Rattle.commands.specs.declared.command_line.forms.WordsErr.{WordsErr}
+use Rattle.commands.specs.declared.command_line.forms.WordsErr.TheVariants as word_errors
+use Rattle.commands.specs.declared.command_line.reading.Command.{Command}
+use Rattle.commands.specs.declared.command_line.reading.Command.TheVariants as commands
+use Rattle.commands.proofs.CommandLine.FormLemmas.{format_named, generations_named, label_named, list_named, make_named, names_differ, one_form, one_make, one_serve, plain_named, serve_named, view_named}
+use Rattle.commands.proofs.CommandLine.ViewLemmas.{one_view}
+use Rattle.commands.proofs.CommandLine.VolumeLemmas.{one_format}
 use Rattle.generation_view.specs.declared.errors.ViewErr.TheVariants as view_errors
-use Rattle.view_commands.specs.Outcomes.{unseen, untold}
-use Rattle.view_commands.specs.Promises.{DoesGenerations, DoesView}
-use Rattle.view_commands.proofs.ViewClauses.{chain_does, view_does}
-use Rattle.basic_commands.specs.Formats.{unformatted}
+use Rattle.generation_view.specs.ViewCommands.Outcomes.{unseen, untold}
+use Rattle.generation_view.specs.ViewCommands.Promises.{DoesGenerations, DoesView}
+use Rattle.generation_view.proofs.ViewCommands.ViewClauses.{chain_does, view_does}
+use Rattle.commands.specs.BasicCommands.Formats.{unformatted}
 use Rattle.ltfs_server.specs.Making.{unmade}
-use Rattle.basic_commands.specs.Outcomes.{IsTold, unlabelled, unlisted}
+use Rattle.commands.specs.BasicCommands.Outcomes.{IsTold, unlabelled, unlisted}
 use Rattle.ltfs_server.specs.Outcomes.{of_format, of_generations, of_label, of_list, of_make, of_memory, of_no_form, of_plain, of_serve, of_view}
-use Rattle.basic_commands.specs.Promises.{DoesFormat, DoesLabel, DoesList, DoesPlain}
+use Rattle.commands.specs.BasicCommands.Promises.{DoesFormat, DoesLabel, DoesList, DoesPlain}
 use Rattle.ltfs_server.specs.Promises.{DoesAsked, DoesMake, DoesServe, RunScripts}
-use Rattle.basic_commands.specs.Runs.{Gives, IsOneOf, Taken, TakesNothing, Written}
+use Rattle.commands.specs.BasicCommands.Runs.{Gives, IsOneOf, Taken, TakesNothing, Written}
 use Rattle.session_run.specs.Timed.{one_moment}
 use Rattle.ltfs_server.specs.Serving.{unscripted}
-use Rattle.basic_commands.specs.declared.plain.PlainEnd.TheVariants as plains
-use Rattle.basic_commands.specs.declared.scripts.Unread.TheVariants as unread
-use Rattle.basic_commands.proofs.FormatClauses.{format_does}
-use Rattle.basic_commands.proofs.LabelClauses.{label_does}
-use Rattle.basic_commands.proofs.ListClauses.{list_does}
+use Rattle.commands.specs.declared.basic_commands.plain.PlainEnd.TheVariants as plains
+use Rattle.commands.specs.declared.basic_commands.scripts.Unread.TheVariants as unread
+use Rattle.commands.proofs.BasicCommands.FormatClauses.{format_does}
+use Rattle.commands.proofs.BasicCommands.LabelClauses.{label_does}
+use Rattle.commands.proofs.BasicCommands.ListClauses.{list_does}
 use Rattle.ltfs_server.proofs.MakeClauses.{make_does}
-use Rattle.basic_commands.proofs.PlainClauses.{plain_does}
+use Rattle.commands.proofs.BasicCommands.PlainClauses.{plain_does}
 use Rattle.ltfs_server.proofs.ServeClauses.{serve_does}
-use Rattle.basic_commands.proofs.Told.{by_six, by_status, by_text, if_some, none_of}
+use Rattle.commands.proofs.BasicCommands.Told.{by_six, by_status, by_text, if_some, none_of}
 use Rattle.tape_drive.proofs.Looking.{no_looks}
 
 -- a status that is one of these is no other

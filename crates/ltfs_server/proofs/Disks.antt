@@ -11,8 +11,8 @@ use Rattle.byte_disk.specs.Since.{GaveSince}
 use Rattle.byte_disk.proofs.Told.{are_told}
 use Rattle.byte_disk.specs.declared.disk.ByteDisk.{Ghosts}
 use Rattle.tape_drive.specs.declared.drive.Drive.{Ghosts as Drives}
-use Rattle.order_laws.specs.Kept.{seen}
-use Rattle.serving_promise.specs.Acks.{AreReached}
+use Rattle.promises.specs.OrderLaws.Kept.{seen}
+use Rattle.promises.specs.ServingPromise.Acks.{AreReached}
 use Rattle.image_tape.specs.Laws.{ImagesOpen}
 use Rattle.image_format.specs.Images.{blank}
 use Rattle.image_tape.specs.Since.{counts_now, fourth, lower, only_now}
@@ -20,9 +20,9 @@ use Rattle.image_tape.specs.Tape.{LeavesOf, LeftSince, View, held_of}
 use Rattle.cartridge_meaning.specs.Carried.{Carried}
 use Rattle.cartridge_meaning.specs.Meaning.{Stands}
 use Rattle.plain_tree.specs.Tree.{Tree}
-use Rattle.serving_promise.specs.Crash.{IsSound}
-use Rattle.serving_promise.specs.Meanings.{cartridges}
-use Rattle.serving_promise.specs.Served.{CanTell, Drive}
+use Rattle.promises.specs.ServingPromise.Crash.{IsSound}
+use Rattle.promises.specs.ServingPromise.Meanings.{cartridges}
+use Rattle.promises.specs.ServingPromise.Served.{CanTell, Drive}
 use Rattle.ltfs_server.specs.Disks.{IsOpened, IsOpenedInMemory, SurvivesOnDisks, SurvivesOnDisksInMemory}
 use Rattle.ltfs_server.specs.Sentence.{IsFoundAgain}
 use Rattle.run_laws.proofs.Holding.{holds_now, holds_then}

@@ -5,12 +5,12 @@ use Rattle.tape_types.specs.declared.cartridges.Twin.{Twin}
 use Rattle.tape_types.specs.declared.moments.Moment.{Moment}
 use Rattle.session_script.specs.declared.logs.Log.{Log}
 use Rattle.session_script.specs.declared.scripts.ScriptLine.{ScriptLine}
-use Rattle.event_laws.specs.Trail.{fault_of}
+use Rattle.head_queue.specs.EventLaws.Trail.{fault_of}
 use Rattle.tape_drive.specs.declared.drive.Drive.{Ghosts}
-use Rattle.serving_promise.specs.Faults.{AreRises}
-use Rattle.serving_promise.specs.Headline.{Failed, last_fault}
-use Rattle.order_laws.specs.Kept.{seen}
-use Rattle.basic_commands.specs.Runs.{IsOneOf}
+use Rattle.promises.specs.ServingPromise.Faults.{AreRises}
+use Rattle.promises.specs.ServingPromise.Headline.{Failed, last_fault}
+use Rattle.promises.specs.OrderLaws.Kept.{seen}
+use Rattle.commands.specs.BasicCommands.Runs.{IsOneOf}
 use Rattle.ltfs_server.specs.Serving.{EndsRun}
 
 -- faults that rose one after the other ended above where they began, or at the end of the count

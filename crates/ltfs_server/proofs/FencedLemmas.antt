@@ -12,15 +12,15 @@ use Rattle.cartridge_meaning.specs.Carried.{Carried}
 use Rattle.cartridge_meaning.specs.Meaning.{Stands}
 use Rattle.cartridge_meaning.specs.Notes.{HasHonestNotes}
 use Rattle.cartridge_meaning.proofs.Honest.{honest_notes}
-use Rattle.command_line.specs.Forms.{IsFormatWords, IsMakeWords, IsServeWords}
-use Rattle.command_line.specs.declared.volumes.FormatWords.{FormatWords}
-use Rattle.command_line.proofs.FormLemmas.{format_named, make_named, names_differ, one_serve, serve_named}
+use Rattle.commands.specs.CommandLine.Forms.{IsFormatWords, IsMakeWords, IsServeWords}
+use Rattle.commands.specs.declared.command_line.volumes.FormatWords.{FormatWords}
+use Rattle.commands.proofs.CommandLine.FormLemmas.{format_named, make_named, names_differ, one_serve, serve_named}
 use Rattle.session_run.specs.Timed.{one_moment}
-use Rattle.serving_promise.specs.Crash.{IsSound}
-use Rattle.serving_promise.specs.Meanings.{cartridges}
-use Rattle.serving_promise.specs.Served.{CanTell}
-use Rattle.crash_laws.specs.May.{AllowsServed}
-use Rattle.crash_laws.specs.Safe.{seen_by}
+use Rattle.promises.specs.ServingPromise.Crash.{IsSound}
+use Rattle.promises.specs.ServingPromise.Meanings.{cartridges}
+use Rattle.promises.specs.ServingPromise.Served.{CanTell}
+use Rattle.promises.specs.CrashLaws.May.{AllowsServed}
+use Rattle.promises.specs.CrashLaws.Safe.{seen_by}
 use Rattle.ltfs_server.specs.Allowed.{MayServeLeft}
 
 -- one text spells one script

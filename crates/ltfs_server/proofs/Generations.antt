@@ -30,13 +30,13 @@ use Rattle.cartridge_meaning.proofs.OneWay.{labels_once}
 use Rattle.space_laws.specs.Closing.{is_dp_due}
 use Rattle.space_laws.specs.Standing.{Given, standing}
 use Rattle.space_laws.proofs.TreeLaw.{are_replays}
-use Rattle.serving_promise.specs.Acks.{AreAcks}
-use Rattle.serving_promise.specs.Headline.{tree_of_log}
-use Rattle.serving_promise.specs.Replies.{AreReplies}
-use Rattle.serving_promise.specs.Served.{CanTell, given_of}
-use Rattle.order_laws.specs.Kept.{seen}
-use Rattle.closing_laws.specs.Owned.{IsCovered, LinkDownTo, TellTrees, all_places, own_places}
-use Rattle.closing_laws.proofs.OwnSyncs.{sync_covered}
+use Rattle.promises.specs.ServingPromise.Acks.{AreAcks}
+use Rattle.promises.specs.ServingPromise.Headline.{tree_of_log}
+use Rattle.promises.specs.ServingPromise.Replies.{AreReplies}
+use Rattle.promises.specs.ServingPromise.Served.{CanTell, given_of}
+use Rattle.promises.specs.OrderLaws.Kept.{seen}
+use Rattle.volume_state.specs.ClosingLaws.Owned.{IsCovered, LinkDownTo, TellTrees, all_places, own_places}
+use Rattle.volume_state.proofs.ClosingLaws.OwnSyncs.{sync_covered}
 use Rattle.session_run.specs.Serving.{HasOwnOnTop}
 use Rattle.generation_view.specs.Chain.{AreLinks, GenTree, IsLink, behind}
 use Rattle.ltfs_server.specs.Generations.{LeavesGenerations, RunsLeaveGenerations}

@@ -12,18 +12,18 @@ use Rattle.tape_drive.specs.declared.drive.Drive.{Ghosts}
 use Rattle.cartridge_meaning.specs.Meaning.{Found}
 use Rattle.mount_recover.specs.Known.{mount_most}
 use Rattle.mount_recover.specs.Steps.{Blames}
-use Rattle.serving_promise.specs.Headline.{Closed, Failed, Short}
-use Rattle.basic_commands.specs.Headline.{IsMountFaultPrinted}
-use Rattle.basic_commands.specs.Labels.{mount_status}
+use Rattle.promises.specs.ServingPromise.Headline.{Closed, Failed, Short}
+use Rattle.commands.specs.BasicCommands.Headline.{IsMountFaultPrinted}
+use Rattle.commands.specs.BasicCommands.Labels.{mount_status}
 use Rattle.ltfs_server.specs.Making.{IsMadeEnd, IsMadeFailurePrinted, IsMadeRun, IsMadeShortPrinted, IsSummaryPrinted, MadeEnd, made, made_log, made_status, made_text, starved, unmade}
 use Rattle.ltfs_server.specs.Outcomes.{EndsAs, of_make}
-use Rattle.basic_commands.specs.Promises.{ReadsAsNone}
+use Rattle.commands.specs.BasicCommands.Promises.{ReadsAsNone}
 use Rattle.ltfs_server.specs.Promises.{DoesMake}
-use Rattle.basic_commands.specs.Runs.{IsOneOf, Written}
+use Rattle.commands.specs.BasicCommands.Runs.{IsOneOf, Written}
 use Rattle.session_run.specs.Serving.{HoldsTree}
 use Rattle.ltfs_server.proofs.EndedRuns.{done_or_refused, failed_rose}
-use Rattle.basic_commands.proofs.MountClauses.{among_refused, blamed, drive_told, found_done, memory_told, mount_isnt, mount_known}
-use Rattle.basic_commands.proofs.Told.{by_six, by_status, by_text, if_some, of_some}
+use Rattle.commands.proofs.BasicCommands.MountClauses.{among_refused, blamed, drive_told, found_done, memory_told, mount_isnt, mount_known}
+use Rattle.commands.proofs.BasicCommands.Told.{by_six, by_status, by_text, if_some, of_some}
 
 -- ---- statuses
 

@@ -10,12 +10,12 @@ use Rattle.cartridge_meaning.specs.declared.errors.MountErr.{MountErr}
 use Rattle.cartridge_meaning.specs.declared.errors.MountErr.TheVariants as errors
 use Rattle.mount_recover.specs.Labels.{AreCounts}
 use Rattle.mount_recover.specs.Steps.{Blames}
-use Rattle.serving_promise.specs.Headline.{Closed, Failed, Short}
-use Rattle.basic_commands.specs.Labels.{mount_status, mount_text}
+use Rattle.promises.specs.ServingPromise.Headline.{Closed, Failed, Short}
+use Rattle.commands.specs.BasicCommands.Labels.{mount_status, mount_text}
 use Rattle.ltfs_server.specs.Making.{IsMadeEnd, MadeEnd, closed_line, made, made_log, made_status, made_text, starved, unmade}
-use Rattle.basic_commands.specs.Outcomes.{IsTold}
+use Rattle.commands.specs.BasicCommands.Outcomes.{IsTold}
 use Rattle.ltfs_server.specs.Promises.{DoesMake}
-use Rattle.basic_commands.specs.Runs.{Written}
+use Rattle.commands.specs.BasicCommands.Runs.{Written}
 use Rattle.session_run.specs.Serving.{IsLookedAt, IsServedSo, IsUnserved, IsWhole, Whole, end_line}
 use Rattle.session_run.specs.declared.ends.ServeEnd.{ServeEnd as VolumeEnd}
 use Rattle.session_run.specs.declared.ends.ServeEnd.TheVariants as ends
@@ -24,7 +24,7 @@ use Rattle.ltfs_server.specs.Serving.{end_status}
 use Rattle.ltfs_server.proofs.ServeSteps.{blames, no_counts}
 use Rattle.session_run.specs.Timed.{TimedView, one_moment}
 use Rattle.ltfs_server.proofs.MakeClauses.{make_does}
-use Rattle.basic_commands.proofs.Told.{if_some}
+use Rattle.commands.proofs.BasicCommands.Told.{if_some}
 
 -- a clock that gives the moment of the words has it as its one moment
 pub timed_makes : {C : Type 0} (one : C → Option Moment) (at : Option Moment) (clock : C) (timed : TimedView C) → timed ≡ record { at = at; clock = clock }

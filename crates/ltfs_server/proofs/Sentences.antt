@@ -8,17 +8,17 @@ use Rattle.session_script.specs.Made.{made_script}
 use Rattle.session_script.specs.LogText.{log_text}
 use Rattle.session_script.specs.declared.logs.Log.{Log}
 use Rattle.session_script.specs.declared.scripts.ScriptLine.{ScriptLine}
-use Rattle.serving_promise.specs.Headline.{Closed, Failed, IsEndOf, IsServeRun, ServeEnd, Short, status_of}
-use Rattle.serving_promise.specs.Meanings.{cartridges}
-use Rattle.order_laws.specs.Kept.{seen}
+use Rattle.promises.specs.ServingPromise.Headline.{Closed, Failed, IsEndOf, IsServeRun, ServeEnd, Short, status_of}
+use Rattle.promises.specs.ServingPromise.Meanings.{cartridges}
+use Rattle.promises.specs.OrderLaws.Kept.{seen}
 use Rattle.run_laws.specs.Went.{IsRunBy}
 use Rattle.ltfs_server.specs.Making.{IsMadeEnd, MadeEnd, made, made_log, made_status, made_text, starved, unmade}
-use Rattle.basic_commands.specs.Outcomes.{IsTold}
+use Rattle.commands.specs.BasicCommands.Outcomes.{IsTold}
 use Rattle.ltfs_server.specs.Promises.{DoesAsked, DoesMake, DoesServe}
-use Rattle.basic_commands.specs.Runs.{IsOneOf, Taken, Written}
+use Rattle.commands.specs.BasicCommands.Runs.{IsOneOf, Taken, Written}
 use Rattle.ltfs_server.specs.Outcomes.{Run}
 use Rattle.ltfs_server.specs.Sentence.{AreNodesTold, Asked, Asks, IsClosedSo, IsScriptAsked, IsWantPrinted, Sentence, SentenceHolds, to_make, to_serve, told_text}
-use Rattle.basic_commands.proofs.Told.{none_of}
+use Rattle.commands.proofs.BasicCommands.Told.{none_of}
 use Rattle.session_run.specs.Timed.{one_moment}
 use Rattle.ltfs_server.specs.Serving.{IsServedEnd, ServedEnd, served, served_log, served_status, served_text, unclosed, unscripted, unserved, unwritten}
 

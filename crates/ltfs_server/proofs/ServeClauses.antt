@@ -13,19 +13,19 @@ use Rattle.tape_drive.specs.declared.drive.Drive.{Ghosts}
 use Rattle.cartridge_meaning.specs.Meaning.{Found}
 use Rattle.mount_recover.specs.Known.{mount_most}
 use Rattle.mount_recover.specs.Steps.{Blames}
-use Rattle.serving_promise.specs.Headline.{Closed, Failed, ServeEnd, Short}
-use Rattle.basic_commands.specs.Headline.{IsMountFaultPrinted, IsReadFaultPrinted, IsRefusalPrinted}
-use Rattle.basic_commands.specs.Labels.{mount_status}
+use Rattle.promises.specs.ServingPromise.Headline.{Closed, Failed, ServeEnd, Short}
+use Rattle.commands.specs.BasicCommands.Headline.{IsMountFaultPrinted, IsReadFaultPrinted, IsRefusalPrinted}
+use Rattle.commands.specs.BasicCommands.Labels.{mount_status}
 use Rattle.ltfs_server.specs.Outcomes.{EndsAs, of_serve}
-use Rattle.basic_commands.specs.Promises.{ReadsAsNone}
+use Rattle.commands.specs.BasicCommands.Promises.{ReadsAsNone}
 use Rattle.ltfs_server.specs.Promises.{DoesServe}
-use Rattle.basic_commands.specs.Runs.{IsOneOf, Taken, Written}
+use Rattle.commands.specs.BasicCommands.Runs.{IsOneOf, Taken, Written}
 use Rattle.session_run.specs.Serving.{HoldsTree}
 use Rattle.ltfs_server.specs.Serving.{IsClosePrinted, IsFailurePrinted, IsRefusedPrinted, IsServedEnd, IsServedRun, IsServedTo, IsShortPrinted, ServedEnd, served, served_log, served_status, served_text, unclosed, unscripted, unserved, unwritten}
-use Rattle.basic_commands.specs.declared.scripts.Unread.TheVariants as unread
+use Rattle.commands.specs.declared.basic_commands.scripts.Unread.TheVariants as unread
 use Rattle.ltfs_server.proofs.EndedRuns.{done_or_refused, failed_rose}
-use Rattle.basic_commands.proofs.MountClauses.{blamed, drive_told, found_done, memory_told, mount_isnt, mount_known}
-use Rattle.basic_commands.proofs.Told.{by_six, by_status, by_text, if_some, of_some}
+use Rattle.commands.proofs.BasicCommands.MountClauses.{blamed, drive_told, found_done, memory_told, mount_isnt, mount_known}
+use Rattle.commands.proofs.BasicCommands.Told.{by_six, by_status, by_text, if_some, of_some}
 
 -- ---- statuses
 

@@ -6,7 +6,7 @@ use Rattle.tape_types.specs.declared.moments.Moment.{Moment}
 use Rattle.session_script.specs.LogText.{log_text}
 use Rattle.session_script.specs.declared.logs.Log.{Log}
 use Rattle.session_script.specs.declared.scripts.ScriptLine.{ScriptLine}
-use Rattle.event_laws.specs.Trail.{steps}
+use Rattle.head_queue.specs.EventLaws.Trail.{steps}
 use Rattle.tape_drive.specs.Looks.{Looks}
 use Rattle.tape_drive.specs.declared.drive.Drive.{Ghosts}
 use Rattle.tape_drive.proofs.Looking.{more_looks, no_looks}
@@ -16,27 +16,27 @@ use Rattle.cartridge_meaning.specs.declared.errors.MountErr.TheVariants as error
 use Rattle.mount_recover.specs.Known.{mount_most}
 use Rattle.mount_recover.specs.Labels.{AreCounts}
 use Rattle.mount_recover.specs.Steps.{Blames}
-use Rattle.serving_promise.specs.Ends.{bounded}
-use Rattle.serving_promise.specs.Headline.{Closed, Failed, IsEndOf, ServeEnd, Short, serve_text, status_of}
-use Rattle.serving_promise.specs.Meanings.{cartridges}
-use Rattle.order_laws.specs.Kept.{seen}
+use Rattle.promises.specs.ServingPromise.Ends.{bounded}
+use Rattle.promises.specs.ServingPromise.Headline.{Closed, Failed, IsEndOf, ServeEnd, Short, serve_text, status_of}
+use Rattle.promises.specs.ServingPromise.Meanings.{cartridges}
+use Rattle.promises.specs.OrderLaws.Kept.{seen}
 use Rattle.run_laws.specs.Went.{IsRunBy}
 use Rattle.session_run.specs.Serving.{IsServedSo, IsUnserved, IsWhole, Whole, end_line, IsLookedAt}
 use Rattle.session_run.specs.declared.ends.ServeEnd.{ServeEnd as VolumeEnd}
 use Rattle.session_run.specs.declared.ends.ServeEnd.TheVariants as ends
 use Rattle.session_run.specs.declared.ends.Served.{Served}
-use Rattle.basic_commands.specs.Labels.{mount_status, mount_text}
-use Rattle.basic_commands.specs.Outcomes.{IsTold}
+use Rattle.commands.specs.BasicCommands.Labels.{mount_status, mount_text}
+use Rattle.commands.specs.BasicCommands.Outcomes.{IsTold}
 use Rattle.ltfs_server.specs.Promises.{DoesServe}
-use Rattle.basic_commands.specs.Runs.{IsScriptIn, Taken, Written}
-use Rattle.basic_commands.specs.Scripts.{IsUnread, unread_status, unread_text}
+use Rattle.commands.specs.BasicCommands.Runs.{IsScriptIn, Taken, Written}
+use Rattle.commands.specs.BasicCommands.Scripts.{IsUnread, unread_status, unread_text}
 use Rattle.session_run.specs.Serving.{HoldsTree}
 use Rattle.session_run.specs.Timed.{TimedView, one_moment}
 use Rattle.ltfs_server.specs.Serving.{IsServedEnd, IsServedRun, LeavesOwn, ServedEnd, end_status, served, served_log, served_status, served_text, told_whole, unclosed, unscripted, unserved, unwritten}
-use Rattle.basic_commands.specs.declared.scripts.Unread.{Unread}
-use Rattle.basic_commands.specs.declared.scripts.Unread.TheVariants as unread
+use Rattle.commands.specs.declared.basic_commands.scripts.Unread.{Unread}
+use Rattle.commands.specs.declared.basic_commands.scripts.Unread.TheVariants as unread
 use Rattle.ltfs_server.proofs.ServeClauses.{serve_does}
-use Rattle.basic_commands.proofs.Told.{if_some}
+use Rattle.commands.proofs.BasicCommands.Told.{if_some}
 
 -- want of memory blames no cartridge
 nothing_blamed : (held : Option Cartridge) → IfSome held (λ c. Blames errors.NoMemory c)

@@ -12,9 +12,9 @@ use Rattle.tape_drive.specs.declared.crash.Cut.{Cut}
 use Rattle.tape_drive.specs.declared.drive.Drive.{Ghosts}
 use Rattle.tape_drive.specs.declared.schedule.Fail.{Fail}
 use Rattle.cartridge_meaning.specs.Carried.{Carried}
-use Rattle.serving_promise.specs.Headline.{tree_of_log}
+use Rattle.promises.specs.ServingPromise.Headline.{tree_of_log}
 use Rattle.run_laws.specs.Memory.{HoldsAcked, IsReady, acked_in_count}
-use Rattle.basic_commands.specs.Runs.{Taken, Written}
+use Rattle.commands.specs.BasicCommands.Runs.{Taken, Written}
 use Rattle.ltfs_server.specs.Sentence.{Asked, IsScriptAsked, SentenceHolds}
 
 -- ---- the image

@@ -16,11 +16,11 @@ use Rattle.plain_tree.specs.Tree.{Tree}
 use Rattle.session_script.specs.declared.logs.Ack.{Ack}
 use Rattle.session_script.specs.declared.logs.Log.{Log}
 use Rattle.session_script.specs.declared.scripts.ScriptLine.{ScriptLine}
-use Rattle.basic_commands.specs.Runs.{Taken, Written}
+use Rattle.commands.specs.BasicCommands.Runs.{Taken, Written}
 use Rattle.cartridge_meaning.specs.Carried.{Carried}
 use Rattle.cartridge_meaning.specs.Meaning.{Stands}
-use Rattle.serving_promise.specs.Crash.{IsSound}
-use Rattle.serving_promise.specs.Meanings.{cartridges}
+use Rattle.promises.specs.ServingPromise.Crash.{IsSound}
+use Rattle.promises.specs.ServingPromise.Meanings.{cartridges}
 use Rattle.run_laws.specs.Memory.{HoldsAcked, acked_by}
 use Rattle.ltfs_server.specs.Sentence.{Asked, Sentence}
 

@@ -18,10 +18,10 @@ use Rattle.cartridge_meaning.specs.Mounts.{Mounts}
 use Rattle.cartridge_meaning.specs.Pointers.{indexes_of}
 use Rattle.cartridge_meaning.specs.declared.mounted.Mounted.{Mounted}
 use Rattle.space_laws.specs.Standing.{Given, standing}
-use Rattle.serving_promise.specs.Headline.{Closed, IsOn, tree_of_log}
-use Rattle.serving_promise.specs.Served.{CanTell, given_of}
-use Rattle.order_laws.specs.Kept.{seen}
-use Rattle.closing_laws.specs.Owned.{all_places, own_places}
+use Rattle.promises.specs.ServingPromise.Headline.{Closed, IsOn, tree_of_log}
+use Rattle.promises.specs.ServingPromise.Served.{CanTell, given_of}
+use Rattle.promises.specs.OrderLaws.Kept.{seen}
+use Rattle.volume_state.specs.ClosingLaws.Owned.{all_places, own_places}
 use Rattle.generation_view.specs.Chain.{AreLinks, GenTree, behind}
 use Rattle.ltfs_server.specs.Serving.{EndsRun}
 

@@ -20,17 +20,17 @@ use Rattle.cartridge_meaning.specs.Meaning.{Reads}
 use Rattle.cartridge_meaning.specs.Mounts.{Mounts}
 use Rattle.cartridge_meaning.specs.declared.errors.MountErr.{MountErr}
 use Rattle.cartridge_meaning.specs.declared.mounted.Mounted.{Mounted}
-use Rattle.serving_promise.specs.Ends.{bounded}
-use Rattle.serving_promise.specs.Headline.{Closed, Failed, ServeEnd, Short, end_text, status_of, tree_of_log}
-use Rattle.serving_promise.specs.Served.{CanTell}
-use Rattle.order_laws.specs.Kept.{seen}
+use Rattle.promises.specs.ServingPromise.Ends.{bounded}
+use Rattle.promises.specs.ServingPromise.Headline.{Closed, Failed, ServeEnd, Short, end_text, status_of, tree_of_log}
+use Rattle.promises.specs.ServingPromise.Served.{CanTell}
+use Rattle.promises.specs.OrderLaws.Kept.{seen}
 use Rattle.run_laws.specs.Went.{IsRunBy}
 use Rattle.session_run.specs.Serving.{HoldsTree, end_line}
 use Rattle.session_run.specs.declared.ends.ServeEnd.{ServeEnd as VolumeEnd}
 use Rattle.session_run.specs.declared.ends.ServeEnd.TheVariants as ends
-use Rattle.basic_commands.specs.Headline.{IsDriveFaultPrinted}
-use Rattle.basic_commands.specs.Labels.{mount_status, mount_text}
-use Rattle.basic_commands.specs.Runs.{Written}
+use Rattle.commands.specs.BasicCommands.Headline.{IsDriveFaultPrinted}
+use Rattle.commands.specs.BasicCommands.Labels.{mount_status, mount_text}
+use Rattle.commands.specs.BasicCommands.Runs.{Written}
 use Rattle.ltfs_server.specs.Serving.{EndsRun}
 
 -- ---- the summary

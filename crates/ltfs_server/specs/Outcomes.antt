@@ -4,20 +4,20 @@ use Rattle.std.specs.Global.{Global}
 use Rattle.tape_types.specs.declared.moments.Moment.{Moment}
 use Rattle.tape_drive.specs.declared.drive.Drive.{Ghosts}
 use Rattle.session_script.specs.declared.logs.Log.{Log}
-use Rattle.command_line.specs.Forms.{HasNoForm, IsFormatWords, IsLabel, IsList, IsMakeWords, IsPlainWords, IsServeWords}
-use Rattle.command_line.specs.Forms.{IsGenerations, IsViewWords}
-use Rattle.command_line.specs.declared.views.ViewWords.{ViewWords}
-use Rattle.command_line.specs.declared.volumes.FormatWords.{FormatWords}
-use Rattle.view_commands.specs.Outcomes.{ChainEnd, IsChainEnd, IsViewEnd, ViewEnd, chain_status, chain_text}
-use Rattle.view_commands.specs.Outcomes.{end_status as view_end_status, end_text as view_end_text}
-use Rattle.basic_commands.specs.Formats.{FormatEnd, IsFormatEnd, end_status, end_text}
+use Rattle.commands.specs.CommandLine.Forms.{HasNoForm, IsFormatWords, IsLabel, IsList, IsMakeWords, IsPlainWords, IsServeWords}
+use Rattle.commands.specs.CommandLine.Forms.{IsGenerations, IsViewWords}
+use Rattle.commands.specs.declared.command_line.views.ViewWords.{ViewWords}
+use Rattle.commands.specs.declared.command_line.volumes.FormatWords.{FormatWords}
+use Rattle.generation_view.specs.ViewCommands.Outcomes.{ChainEnd, IsChainEnd, IsViewEnd, ViewEnd, chain_status, chain_text}
+use Rattle.generation_view.specs.ViewCommands.Outcomes.{end_status as view_end_status, end_text as view_end_text}
+use Rattle.commands.specs.BasicCommands.Formats.{FormatEnd, IsFormatEnd, end_status, end_text}
 use Rattle.ltfs_server.specs.Making.{IsMadeEnd, MadeEnd, made_log, made_status, made_text}
-use Rattle.basic_commands.specs.Outcomes.{IsLabelEnd, IsListEnd, IsPlainEnd, IsTold, LabelEnd, ListEnd, label_status}
-use Rattle.basic_commands.specs.Outcomes.{label_text, list_status, list_text, plain_log, plain_status, plain_text}
-use Rattle.basic_commands.specs.Runs.{Gives, Taken, TakesNothing, Written, looked}
+use Rattle.commands.specs.BasicCommands.Outcomes.{IsLabelEnd, IsListEnd, IsPlainEnd, IsTold, LabelEnd, ListEnd, label_status}
+use Rattle.commands.specs.BasicCommands.Outcomes.{label_text, list_status, list_text, plain_log, plain_status, plain_text}
+use Rattle.commands.specs.BasicCommands.Runs.{Gives, Taken, TakesNothing, Written, looked}
 use Rattle.session_run.specs.Timed.{one_moment}
 use Rattle.ltfs_server.specs.Serving.{IsServedEnd, ServedEnd, served_log, served_status, served_text}
-use Rattle.basic_commands.specs.declared.plain.PlainEnd.{PlainEnd}
+use Rattle.commands.specs.declared.basic_commands.plain.PlainEnd.{PlainEnd}
 
 -- a run by its words, what its clock may give, its clock's one moment where it has one, and its source
 pub record Run : Type 1 where

@@ -10,20 +10,20 @@ use Rattle.mount_recover.specs.Known.{mount_most}
 use Rattle.tape_drive.specs.Looks.{Looks}
 use Rattle.tape_drive.specs.declared.drive.Drive.{Ghosts}
 use Rattle.cartridge_meaning.specs.Meaning.{Found}
-use Rattle.command_line.specs.Forms.{HasNoForm, IsFormat, IsFormatWords, IsLabel, IsList, IsMake, IsMakeWords, IsPlain}
-use Rattle.command_line.specs.Forms.{IsPlainWords, IsServe, IsServeWords}
-use Rattle.command_line.specs.Forms.{IsGenerations, IsView, IsViewWords}
-use Rattle.command_line.specs.declared.views.ViewWords.{ViewWords}
-use Rattle.command_line.specs.declared.volumes.FormatWords.{FormatWords}
-use Rattle.view_commands.specs.Promises.{DoesGenerations, DoesView}
-use Rattle.basic_commands.specs.Headline.{IsMountFaultPrinted, IsReadFaultPrinted}
-use Rattle.basic_commands.specs.Headline.{IsRefusalPrinted}
+use Rattle.commands.specs.CommandLine.Forms.{HasNoForm, IsFormat, IsFormatWords, IsLabel, IsList, IsMake, IsMakeWords, IsPlain}
+use Rattle.commands.specs.CommandLine.Forms.{IsPlainWords, IsServe, IsServeWords}
+use Rattle.commands.specs.CommandLine.Forms.{IsGenerations, IsView, IsViewWords}
+use Rattle.commands.specs.declared.command_line.views.ViewWords.{ViewWords}
+use Rattle.commands.specs.declared.command_line.volumes.FormatWords.{FormatWords}
+use Rattle.generation_view.specs.ViewCommands.Promises.{DoesGenerations, DoesView}
+use Rattle.commands.specs.BasicCommands.Headline.{IsMountFaultPrinted, IsReadFaultPrinted}
+use Rattle.commands.specs.BasicCommands.Headline.{IsRefusalPrinted}
 use Rattle.ltfs_server.specs.Making.{IsMadeEnd, IsMadeFailurePrinted, IsMadeRun, IsMadeShortPrinted, IsSummaryPrinted}
 use Rattle.ltfs_server.specs.Making.{MadeEnd}
 use Rattle.ltfs_server.specs.Outcomes.{Ending, EndsAs, IsCaused}
 use Rattle.ltfs_server.specs.Outcomes.{of_make, of_serve}
-use Rattle.basic_commands.specs.Promises.{DoesFormat, DoesLabel, DoesList, DoesPlain, ReadsAsNone}
-use Rattle.basic_commands.specs.Runs.{Gives, IsOneOf, Taken, TakesNothing, Written}
+use Rattle.commands.specs.BasicCommands.Promises.{DoesFormat, DoesLabel, DoesList, DoesPlain, ReadsAsNone}
+use Rattle.commands.specs.BasicCommands.Runs.{Gives, IsOneOf, Taken, TakesNothing, Written}
 use Rattle.ltfs_server.specs.Serving.{IsClosePrinted, IsFailurePrinted, IsRefusedPrinted, IsServedEnd, IsServedRun}
 use Rattle.session_run.specs.Timed.{one_moment}
 use Rattle.ltfs_server.specs.Serving.{IsShortPrinted, ServedEnd}

@@ -8,13 +8,13 @@ use Rattle.session_script.specs.declared.logs.Log.{Log}
 use Rattle.cartridge_meaning.specs.Carried.{Carried}
 use Rattle.format_volume.specs.Meanings.{carried_for}
 use Rattle.format_volume.specs.declared.requests.FormatSpec.{FormatSpec}
-use Rattle.serving_promise.specs.Crash.{IsSound}
-use Rattle.serving_promise.specs.Headline.{tree_of_log}
-use Rattle.serving_promise.specs.Meanings.{cartridges}
-use Rattle.serving_promise.specs.Served.{CanTell}
-use Rattle.order_laws.specs.Kept.{seen}
-use Rattle.basic_commands.specs.Formats.{IsFormatted}
-use Rattle.basic_commands.specs.Runs.{Taken, Written}
+use Rattle.promises.specs.ServingPromise.Crash.{IsSound}
+use Rattle.promises.specs.ServingPromise.Headline.{tree_of_log}
+use Rattle.promises.specs.ServingPromise.Meanings.{cartridges}
+use Rattle.promises.specs.ServingPromise.Served.{CanTell}
+use Rattle.promises.specs.OrderLaws.Kept.{seen}
+use Rattle.commands.specs.BasicCommands.Formats.{IsFormatted}
+use Rattle.commands.specs.BasicCommands.Runs.{Taken, Written}
 use Rattle.ltfs_server.specs.Sentence.{Asked, Sentence}
 
 -- The drive tells its cartridge, which stands for the tree and is sound, and a crash from now on leaves just that one.

@@ -3,7 +3,7 @@ use Rattle.std.specs.Prelude.{ℕ, Option}
 use Rattle.tape_types.specs.declared.moments.Moment.{Moment}
 use Rattle.tape_drive.specs.declared.drive.Drive.{Ghosts}
 use Rattle.session_script.specs.declared.logs.Log.{Log}
-use Rattle.basic_commands.specs.Runs.{Written}
+use Rattle.commands.specs.BasicCommands.Runs.{Written}
 use Rattle.ltfs_server.specs.Outcomes.{Run}
 use Rattle.ltfs_server.specs.Promises.{DoesAsked}
 use Rattle.ltfs_server.specs.Sentence.{Asked, Asks, SentenceHolds}

@@ -15,23 +15,23 @@ use Rattle.session_script.specs.LogText.{log_text}
 use Rattle.session_script.specs.Made.{made_script}
 use Rattle.session_script.specs.declared.logs.Log.{Log}
 use Rattle.session_script.specs.declared.scripts.ScriptLine.{ScriptLine}
-use Rattle.event_laws.specs.Trail.{IsTrail, after_all}
-use Rattle.event_laws.specs.Waiting.{is_at_rest}
+use Rattle.head_queue.specs.EventLaws.Trail.{IsTrail, after_all}
+use Rattle.head_queue.specs.EventLaws.Waiting.{is_at_rest}
 use Rattle.cartridge_meaning.specs.Carried.{Carried, carried}
 use Rattle.cartridge_meaning.specs.declared.mounted.Mounted.{Mounted}
-use Rattle.serving_promise.specs.Acks.{AreAcks, AreReached, AreSyncs}
-use Rattle.serving_promise.specs.Asking.{AreOfReads}
-use Rattle.serving_promise.specs.Crash.{IsSound, SurvivesCrashes}
-use Rattle.serving_promise.specs.Faults.{AreFaults}
-use Rattle.serving_promise.specs.Headline.{IsEndOf, IsTrueLog, ServeEnd, serve_text, status_of, tree_of_log}
-use Rattle.serving_promise.specs.Meanings.{cartridges}
-use Rattle.serving_promise.specs.Served.{CanTell, Drive}
-use Rattle.order_laws.specs.Kept.{seen}
+use Rattle.promises.specs.ServingPromise.Acks.{AreAcks, AreReached, AreSyncs}
+use Rattle.promises.specs.ServingPromise.Asking.{AreOfReads}
+use Rattle.promises.specs.ServingPromise.Crash.{IsSound, SurvivesCrashes}
+use Rattle.promises.specs.ServingPromise.Faults.{AreFaults}
+use Rattle.promises.specs.ServingPromise.Headline.{IsEndOf, IsTrueLog, ServeEnd, serve_text, status_of, tree_of_log}
+use Rattle.promises.specs.ServingPromise.Meanings.{cartridges}
+use Rattle.promises.specs.ServingPromise.Served.{CanTell, Drive}
+use Rattle.promises.specs.OrderLaws.Kept.{seen}
 use Rattle.run_laws.specs.Memory.{IsReady, Survives}
 use Rattle.run_laws.specs.Went.{WentBy}
-use Rattle.command_line.specs.Forms.{IsMakeWords, IsServeWords}
+use Rattle.commands.specs.CommandLine.Forms.{IsMakeWords, IsServeWords}
 use Rattle.ltfs_server.specs.Making.{HasNodes, summary_text}
-use Rattle.basic_commands.specs.Runs.{IsOneOf, IsScriptIn, Taken, Written}
+use Rattle.commands.specs.BasicCommands.Runs.{IsOneOf, IsScriptIn, Taken, Written}
 use Rattle.ltfs_server.specs.Outcomes.{Run}
 use Rattle.session_run.specs.Timed.{one_moment}
 

@@ -16,19 +16,19 @@ use Rattle.cartridge_meaning.specs.Meaning.{Reads}
 use Rattle.cartridge_meaning.specs.Mounts.{Mounts}
 use Rattle.cartridge_meaning.specs.declared.errors.MountErr.{MountErr}
 use Rattle.cartridge_meaning.specs.declared.mounted.Mounted.{Mounted}
-use Rattle.serving_promise.specs.Headline.{Closed, Failed, IsEndOf, ServeEnd, Short, serve_text, status_of}
-use Rattle.serving_promise.specs.Meanings.{cartridges}
-use Rattle.serving_promise.specs.Served.{CanTell}
-use Rattle.order_laws.specs.Kept.{seen}
+use Rattle.promises.specs.ServingPromise.Headline.{Closed, Failed, IsEndOf, ServeEnd, Short, serve_text, status_of}
+use Rattle.promises.specs.ServingPromise.Meanings.{cartridges}
+use Rattle.promises.specs.ServingPromise.Served.{CanTell}
+use Rattle.promises.specs.OrderLaws.Kept.{seen}
 use Rattle.run_laws.specs.Went.{IsRunBy}
 use Rattle.session_run.specs.Serving.{HasOwnOnTop, HoldsTree, end_line}
 use Rattle.session_run.specs.declared.ends.ServeEnd.{ServeEnd as VolumeEnd}
 use Rattle.session_run.specs.declared.ends.ServeEnd.TheVariants as ends
-use Rattle.basic_commands.specs.Headline.{IsDriveFaultPrinted}
-use Rattle.basic_commands.specs.Labels.{mount_status, mount_text}
-use Rattle.basic_commands.specs.Scripts.{IsUnread, unread_status, unread_text}
-use Rattle.basic_commands.specs.Runs.{IsRunOf, IsScriptIn, Taken, Written}
-use Rattle.basic_commands.specs.declared.scripts.Unread.{Unread}
+use Rattle.commands.specs.BasicCommands.Headline.{IsDriveFaultPrinted}
+use Rattle.commands.specs.BasicCommands.Labels.{mount_status, mount_text}
+use Rattle.commands.specs.BasicCommands.Scripts.{IsUnread, unread_status, unread_text}
+use Rattle.commands.specs.BasicCommands.Runs.{IsRunOf, IsScriptIn, Taken, Written}
+use Rattle.commands.specs.declared.basic_commands.scripts.Unread.{Unread}
 
 -- ---- how serving ended
 

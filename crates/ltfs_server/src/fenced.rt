@@ -2,19 +2,19 @@
 
 ghost use Rattle.std.specs.Prelude.{◌≡◌, ℕ, List, Option, Ok, Some};
 ghost use Rattle.session_script.specs.Grammar.{script_of};
-ghost use Rattle.command_line.specs.Forms.{IsServeWords};
+ghost use Rattle.commands.specs.CommandLine.Forms.{IsServeWords};
 ghost use Rattle.session_run.specs.Timed.{one_moment};
 ghost use Rattle.cartridge_meaning.specs.Meaning.{Stands};
 ghost use Rattle.tape_types.specs.declared.moments.Moment.{Moment as Instant};
-ghost use Rattle.serving_promise.specs.Crash.{IsSound};
-ghost use Rattle.serving_promise.specs.Meanings.{cartridges};
-ghost use Rattle.serving_promise.specs.Served.{CanTell};
-ghost use Rattle.order_laws.specs.Kept.{seen};
-ghost use Rattle.basic_commands.specs.Runs.{taken, written};
+ghost use Rattle.promises.specs.ServingPromise.Crash.{IsSound};
+ghost use Rattle.promises.specs.ServingPromise.Meanings.{cartridges};
+ghost use Rattle.promises.specs.ServingPromise.Served.{CanTell};
+ghost use Rattle.promises.specs.OrderLaws.Kept.{seen};
+ghost use Rattle.commands.specs.BasicCommands.Runs.{taken, written};
 ghost use Rattle.ltfs_server.specs.Sentence.{SentenceHolds, to_serve};
 
 use crate::server::run;
-use basic_commands::Ended;
+use commands::basic_commands::Ended;
 use fenced_drive::{Fenced, Order, Unowned};
 use std::alloc::Global;
 use std::sync::Wait;

@@ -1,35 +1,35 @@
 ghost use Rattle.std.specs.Prelude.{ℕ, IfSome, Option};
 ghost use Rattle.tape_types.specs.declared.moments.Moment.{Moment as Instant};
-ghost use Rattle.command_line.specs.Forms.{HasNoForm, IsFormatWords, IsLabel, IsList, IsMakeWords, IsPlain};
-ghost use Rattle.command_line.specs.Forms.{IsPlainWords, IsServe, IsServeWords};
-ghost use Rattle.command_line.specs.Forms.{IsGenerations, IsViewWords};
-ghost use Rattle.command_line.specs.declared.views.ViewWords.{ViewWords};
-ghost use Rattle.command_line.specs.declared.volumes.FormatWords.{FormatWords};
+ghost use Rattle.commands.specs.CommandLine.Forms.{HasNoForm, IsFormatWords, IsLabel, IsList, IsMakeWords, IsPlain};
+ghost use Rattle.commands.specs.CommandLine.Forms.{IsPlainWords, IsServe, IsServeWords};
+ghost use Rattle.commands.specs.CommandLine.Forms.{IsGenerations, IsViewWords};
+ghost use Rattle.commands.specs.declared.command_line.views.ViewWords.{ViewWords};
+ghost use Rattle.commands.specs.declared.command_line.volumes.FormatWords.{FormatWords};
 ghost use Rattle.cartridge_meaning.specs.Notes.{HasHonestNotes};
-ghost use Rattle.view_commands.specs.Promises.{DoesGenerations, DoesView};
+ghost use Rattle.generation_view.specs.ViewCommands.Promises.{DoesGenerations, DoesView};
 ghost use Rattle.ltfs_server.specs.Outcomes.{Ending, EndsAs, IsCaused};
-ghost use Rattle.basic_commands.specs.Promises.{DoesFormat, DoesLabel, DoesList, DoesPlain};
+ghost use Rattle.commands.specs.BasicCommands.Promises.{DoesFormat, DoesLabel, DoesList, DoesPlain};
 ghost use Rattle.ltfs_server.specs.Promises.{AskToMount, ComesOf, DoesAsked, DoesMake};
 ghost use Rattle.ltfs_server.specs.Promises.{DoesServe, RefusesWords};
-ghost use Rattle.basic_commands.specs.Runs.{TakesNothing, taken, written};
+ghost use Rattle.commands.specs.BasicCommands.Runs.{TakesNothing, taken, written};
 ghost use Rattle.ltfs_server.specs.Sentence.{Asked, Asks, SentenceHolds};
 ghost use Rattle.session_run.specs.Timed.{one_moment};
 ghost use Rattle.session_script.specs.Made.{made_script};
 ghost use Rattle.tape_drive.specs.Crashes.{AllowsAll};
-ghost use Rattle.crash_laws.specs.May.{MayServe};
+ghost use Rattle.promises.specs.CrashLaws.May.{MayServe};
 ghost use Rattle.ltfs_server.specs.Allowed.{MayServeLeft};
 
 use crate::making::run_make;
 use crate::serves::run_serve;
-use basic_commands::{Ended, Status, run_format, run_label, run_list, run_plain, tell};
-use command_line::{Command, WordsErr, read_words};
+use commands::basic_commands::{Ended, Status, run_format, run_label, run_list, run_plain, tell};
+use commands::command_line::{Command, WordsErr, read_words};
+use generation_view::view_commands::{run_generations, run_view};
 use session_run::Host;
 use std::alloc::Global;
 use std::sync::Wait;
 use std::thread::Threads;
 use tape_drive::Drive;
 use tape_edge::{Clock, Gate, Sink, Source};
-use view_commands::{run_generations, run_view};
 
 /// Runs the program: reads the words, and does what they ask for.
 pub fn run<

@@ -5,15 +5,15 @@ ghost use Rattle.tape_types.specs.declared.moments.Moment.{Moment as Instant};
 ghost use Rattle.session_script.specs.declared.scripts.ScriptLine.{ScriptLine};
 ghost use Rattle.tape_edge.specs.Clocks.{IsSince1970};
 ghost use Rattle.cartridge_meaning.specs.Notes.{HasHonestNotes};
-ghost use Rattle.basic_commands.specs.Runs.{IsScriptIn, Taken, taken, written};
-ghost use Rattle.basic_commands.specs.Statuses.{status_number};
+ghost use Rattle.commands.specs.BasicCommands.Runs.{IsScriptIn, Taken, taken, written};
+ghost use Rattle.commands.specs.BasicCommands.Statuses.{status_number};
 ghost use Rattle.session_run.specs.Serving.{Whole};
 ghost use Rattle.session_run.specs.Timed.{one_moment};
 ghost use Rattle.ltfs_server.specs.Allowed.{MayServeLeft};
 ghost use Rattle.ltfs_server.specs.Promises.{DoesServe};
 ghost use Rattle.ltfs_server.specs.Serving.{end_status, told_whole};
 
-use basic_commands::{Ended, Status, read_calls, tell_made, unread_status, unread_text};
+use commands::basic_commands::{Ended, Status, read_calls, tell_made, unread_status, unread_text};
 use session_run::{Host, ServeEnd, Served, TimedClock, end_line, serve_volume};
 use session_script::{Log, log_text};
 use std::alloc::Global;

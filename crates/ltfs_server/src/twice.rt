@@ -8,14 +8,14 @@ ghost use Rattle.session_script.specs.declared.scripts.ScriptLine.{ScriptLine};
 ghost use Rattle.cartridge_meaning.specs.Carried.{Carried};
 ghost use Rattle.cartridge_meaning.specs.Notes.{HasHonestNotes};
 ghost use Rattle.run_laws.specs.Memory.{IsReady};
-ghost use Rattle.command_line.specs.Forms.{IsServe};
-ghost use Rattle.basic_commands.specs.Runs.{IsScriptIn, taken, written};
+ghost use Rattle.commands.specs.CommandLine.Forms.{IsServe};
+ghost use Rattle.commands.specs.BasicCommands.Runs.{IsScriptIn, taken, written};
 ghost use Rattle.ltfs_server.specs.Again.{HoldsLog, IsReadyAgain, cut_within, image_by};
 ghost use Rattle.ltfs_server.specs.Runs.{RunsSo};
 ghost use Rattle.ltfs_server.specs.Sentence.{to_serve};
 
 use crate::server::run;
-use basic_commands::Ended;
+use commands::basic_commands::Ended;
 use session_run::Host;
 use std::alloc::Global;
 use std::sync::Wait;

@@ -1,15 +1,15 @@
 -- What stays true of a label's value whichever elements are told.
 use Rattle.std.proofs.Common.{◌≡◌, ℕ, Bool, true, false, List, [], ◌∷◌, ◌++◌, Some, None, Ok, refl, sym, subst}
-use Rattle.doc_fields.specs.declared.tags.Tag.{Tag}
-use Rattle.doc_fields.specs.declared.starts.Start.{Start}
-use Rattle.doc_fields.specs.Space.{space_end}
-use Rattle.doc_elements.specs.Children.{first_missing, member}
-use Rattle.doc_elements.specs.declared.schema.Container.{Container}
-use Rattle.doc_elements.specs.declared.schema.Form.{Form}
-use Rattle.doc_elements.specs.declared.schema.Child.TheVariants as child
-use Rattle.doc_elements.specs.Schema.{rule}
-use Rattle.doc_elements.specs.Pieces.{Piece, Val, closes, leaf_at}
-use Rattle.doc_elements.specs.Elements.{AllSpelled, Item, Items, Spelled, all_pieces, bare, item, item_tag, nested, no_items, pieces_of, plain}
+use Rattle.ltfs_documents.specs.declared.doc_fields.tags.Tag.{Tag}
+use Rattle.ltfs_documents.specs.declared.doc_fields.starts.Start.{Start}
+use Rattle.ltfs_documents.specs.DocFields.Space.{space_end}
+use Rattle.ltfs_documents.specs.DocElements.Children.{first_missing, member}
+use Rattle.ltfs_documents.specs.declared.doc_elements.schema.Container.{Container}
+use Rattle.ltfs_documents.specs.declared.doc_elements.schema.Form.{Form}
+use Rattle.ltfs_documents.specs.declared.doc_elements.schema.Child.TheVariants as child
+use Rattle.ltfs_documents.specs.DocElements.Schema.{rule}
+use Rattle.ltfs_documents.specs.DocElements.Pieces.{Piece, Val, closes, leaf_at}
+use Rattle.ltfs_documents.specs.DocElements.Elements.{AllSpelled, Item, Items, Spelled, all_pieces, bare, item, item_tag, nested, no_items, pieces_of, plain}
 use Rattle.ltfs_label.specs.Values.{LabelValue, set_leaf}
 use Rattle.ltfs_label.specs.Reading.{set, value_from}
 

@@ -2,27 +2,27 @@
 use Rattle.std.proofs.Common.{◌≡◌, ◌∙◌, ℕ, ◌≤◌, Bool, true, false, cond, ◌==◌, List, [], ◌∷◌, ◌++◌, Result, Ok}
 use Rattle.std.proofs.Common.{refl, sym, ap, subst, arith}
 use Rattle.std.proofs.lemmas.Bool.Decides.{nat_tests}
-use Rattle.doc_fields.specs.declared.tags.Tag.{Tag}
-use Rattle.doc_fields.specs.declared.tags.Tag.TheVariants.{Creator, FormatTime, VolumeUuid, Location, Partition}
-use Rattle.doc_fields.specs.declared.tags.Tag.TheVariants.{Partitions, IndexLetter, DataLetter, BlockSize, Compression}
-use Rattle.doc_fields.specs.declared.starts.Start.{Start}
-use Rattle.doc_fields.specs.Space.{space_end}
-use Rattle.doc_fields.specs.Numbers.{number_at}
-use Rattle.doc_fields.specs.EndTag.{end_at}
-use Rattle.doc_fields.specs.Values.{letter_at}
-use Rattle.doc_elements.specs.Children.{code, member}
-use Rattle.doc_elements.specs.declared.errors.PieceErr.{PieceErr}
-use Rattle.doc_elements.specs.declared.schema.Container.{Container}
-use Rattle.doc_elements.specs.declared.schema.Container.TheVariants as place
-use Rattle.doc_elements.specs.declared.schema.Form.{Form}
-use Rattle.doc_elements.specs.declared.schema.Form.TheVariants as form
-use Rattle.doc_elements.specs.declared.schema.Child.TheVariants as child
-use Rattle.doc_elements.specs.Schema.{required, rule, tag_of}
-use Rattle.doc_elements.specs.Pieces.{Val, ◌>>=◌, closes, empty_value, in_range, leaf_at, letter, lift, number}
-use Rattle.doc_elements.specs.Pieces.{number_in, time, truth, uuid, value_in, words}
-use Rattle.doc_elements.specs.Elements.{AllSpelled, Item, Items, Spelled, all_pieces, bare, item, item_tag, nested}
-use Rattle.doc_elements.specs.Elements.{no_items, pieces_of, plain}
-use Rattle.doc_elements.proofs.Inversion.{bind_ok}
+use Rattle.ltfs_documents.specs.declared.doc_fields.tags.Tag.{Tag}
+use Rattle.ltfs_documents.specs.declared.doc_fields.tags.Tag.TheVariants.{Creator, FormatTime, VolumeUuid, Location, Partition}
+use Rattle.ltfs_documents.specs.declared.doc_fields.tags.Tag.TheVariants.{Partitions, IndexLetter, DataLetter, BlockSize, Compression}
+use Rattle.ltfs_documents.specs.declared.doc_fields.starts.Start.{Start}
+use Rattle.ltfs_documents.specs.DocFields.Space.{space_end}
+use Rattle.ltfs_documents.specs.DocFields.Numbers.{number_at}
+use Rattle.ltfs_documents.specs.DocFields.EndTag.{end_at}
+use Rattle.ltfs_documents.specs.DocFields.Values.{letter_at}
+use Rattle.ltfs_documents.specs.DocElements.Children.{code, member}
+use Rattle.ltfs_documents.specs.declared.doc_elements.errors.PieceErr.{PieceErr}
+use Rattle.ltfs_documents.specs.declared.doc_elements.schema.Container.{Container}
+use Rattle.ltfs_documents.specs.declared.doc_elements.schema.Container.TheVariants as place
+use Rattle.ltfs_documents.specs.declared.doc_elements.schema.Form.{Form}
+use Rattle.ltfs_documents.specs.declared.doc_elements.schema.Form.TheVariants as form
+use Rattle.ltfs_documents.specs.declared.doc_elements.schema.Child.TheVariants as child
+use Rattle.ltfs_documents.specs.DocElements.Schema.{required, rule, tag_of}
+use Rattle.ltfs_documents.specs.DocElements.Pieces.{Val, ◌>>=◌, closes, empty_value, in_range, leaf_at, letter, lift, number}
+use Rattle.ltfs_documents.specs.DocElements.Pieces.{number_in, time, truth, uuid, value_in, words}
+use Rattle.ltfs_documents.specs.DocElements.Elements.{AllSpelled, Item, Items, Spelled, all_pieces, bare, item, item_tag, nested}
+use Rattle.ltfs_documents.specs.DocElements.Elements.{no_items, pieces_of, plain}
+use Rattle.ltfs_documents.proofs.DocElements.Inversion.{bind_ok}
 use Rattle.index_model.specs.Texts.{IsLetter}
 use Rattle.index_read.proofs.Ranges.{InRange, leaf_range}
 use Rattle.ltfs_label.specs.Values.{LabelValue, blank, set_leaf}

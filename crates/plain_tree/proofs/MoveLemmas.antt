@@ -11,7 +11,7 @@ use Rattle.std.specs.List.{list_any}
 use Rattle.std.specs.FinMap as fin
 pub use Rattle.std.proofs.lemmas.Bool.{and_parts as both_true, false_from_ne_true as not_true}
 use Rattle.std.proofs.lemmas.Bool.{or_right}
-use Rattle.node_keys.proofs.SortLemmas.{tied}
+use Rattle.tape_types.proofs.NodeKeys.SortLemmas.{tied}
 use Rattle.plain_tree.specs.declared.nodes.Node.{Node}
 use Rattle.plain_tree.specs.Paths.{Path, path_cmp, same_path, is_at_or_below, moved_path}
 use Rattle.plain_tree.specs.Tree.{Nodes, moved}

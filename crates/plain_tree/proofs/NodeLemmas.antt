@@ -3,7 +3,7 @@ use Rattle.std.proofs.Common.{◌≡◌, Some, None, refl}
 use Rattle.std.specs.Cmp.{IsTotalOrder}
 use Rattle.std.specs.Cmp.Lexicographic.{lists_total, nat_list_cmp_total}
 use Rattle.std.specs.FinMap as fin
-pub use Rattle.node_keys.proofs.SortLemmas.{tied}
+pub use Rattle.tape_types.proofs.NodeKeys.SortLemmas.{tied}
 use Rattle.plain_tree.specs.declared.nodes.Node.{Node}
 use Rattle.plain_tree.specs.Paths.{Path, path_cmp}
 use Rattle.plain_tree.specs.Tree.{Nodes, changed_at}

@@ -14,7 +14,7 @@ use borrow.Rule.Slice.PartMut.{put_mid}
 use Rattle.std.proofs.lemmas.List.{get_or-replicate, get_or_past, length-replicate, get_or-take, get_or-drop, get_or_append_left, get_or-append_right, get_or_default, same_lists, length-take, length-append, length-drop}
 use Rattle.std.proofs.lemmas.List.FromFn.{length-map-range_with_len, get_or-map-range_with_len}
 pub use Rattle.std.proofs.lemmas.Bool.{lt-ltb as ltb-is_true, le-ltb as ltb-is_false}
-use Rattle.node_keys.proofs.SortLemmas.{tied}
+use Rattle.tape_types.proofs.NodeKeys.SortLemmas.{tied}
 use Rattle.plain_tree.specs.Cells.{Cell, bytes_of}
 use Rattle.plain_tree.specs.Pages.{byte_in, page_at, byte_at}
 

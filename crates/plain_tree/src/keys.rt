@@ -1,6 +1,6 @@
-use node_keys::Keys;
 use std::alloc::Global;
 use std::marker::Model;
+use tape_types::node_keys::Keys;
 
 /// The extended attributes of a node: under each key one value.
 #[derive(Drop)]
@@ -11,7 +11,7 @@ pub struct NodeKeys {
 impl Model for NodeKeys {
     ghost use Rattle.std.specs.Coded.{coded_list, coded_ℕ};
     ghost use Rattle.std.specs.FinMap as fin;
-    ghost use Rattle.node_keys.specs.Keys.{KeyMap};
+    ghost use Rattle.tape_types.specs.NodeKeys.Keys.{KeyMap};
 
     ghost Value = { KeyMap };
 

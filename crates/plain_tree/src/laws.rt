@@ -1,4 +1,5 @@
-ghost use Rattle.plain_tree.specs.Laws.{TreesStayValid, RefusedCallsChangeNothing, UidsNeverReturn, AttributesStay, RenamesKeepNodes};
+ghost use Rattle.plain_tree.specs.Laws.{TreesStayValid, RefusedCallsChangeNothing, UidsNeverReturn, AttributesStay};
+ghost use Rattle.plain_tree.specs.Laws.{RenamesKeepNodes};
 ghost use Rattle.plain_tree.specs.Laws.{ReadsSeeWrites, ListingsAreExact};
 
 /// Every tree that calls reach is valid.

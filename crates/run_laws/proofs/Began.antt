@@ -11,10 +11,10 @@ use Rattle.cartridge_meaning.specs.Mounts.{Mounts}
 use Rattle.cartridge_meaning.specs.declared.mounted.Mounted.{Mounted}
 use Rattle.cartridge_meaning.proofs.OneMount.{mounted_once}
 use Rattle.cartridge_meaning.proofs.OneWay.{same_facts, same_tree}
-use Rattle.serving_promise.specs.Crash.{IsSound}
-use Rattle.serving_promise.specs.Meanings.{cartridges}
-use Rattle.serving_promise.specs.Served.{CanTell}
-use Rattle.order_laws.specs.Kept.{seen}
+use Rattle.promises.specs.ServingPromise.Crash.{IsSound}
+use Rattle.promises.specs.ServingPromise.Meanings.{cartridges}
+use Rattle.promises.specs.ServingPromise.Served.{CanTell}
+use Rattle.promises.specs.OrderLaws.Kept.{seen}
 
 -- the cartridge reads as this tree, and this is found of it
 abbrev pub ReadsAs : Mounted → Tree → Cartridge → Type 0

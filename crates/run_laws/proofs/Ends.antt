@@ -5,9 +5,9 @@ use Rattle.tape_types.specs.declared.cartridges.Cartridge.{Cartridge}
 use Rattle.plain_tree.specs.Tree.{Tree}
 use Rattle.cartridge_meaning.specs.Carried.{carried}
 use Rattle.cartridge_meaning.specs.declared.mounted.Mounted.{Mounted}
-use Rattle.serving_promise.specs.Crash.{IsSound, Meaning}
-use Rattle.serving_promise.specs.Ends.{IsDoneClose}
-use Rattle.serving_promise.specs.Served.{Drive}
+use Rattle.promises.specs.ServingPromise.Crash.{IsSound, Meaning}
+use Rattle.promises.specs.ServingPromise.Ends.{IsDoneClose}
+use Rattle.promises.specs.ServingPromise.Served.{Drive}
 
 -- a close that is done says the same of the drive as the run began
 pub done_since : (m : Meaning) (first start now : Drive) (mounted : Mounted) (before tree : Tree)

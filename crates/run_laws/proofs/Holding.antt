@@ -10,9 +10,9 @@ use Rattle.session_script.specs.declared.logs.Ack.{Ack}
 use Rattle.session_script.specs.declared.logs.Log.{Log}
 use Rattle.session_script.specs.declared.scripts.ScriptLine.{ScriptLine}
 use Rattle.cartridge_meaning.specs.Carried.{Carried}
-use Rattle.serving_promise.specs.Crash.{Leavings, StandsWithin, SurvivesCrashes}
-use Rattle.serving_promise.specs.Headline.{tree_of_log}
-use Rattle.serving_promise.specs.Meanings.{cartridges}
+use Rattle.promises.specs.ServingPromise.Crash.{Leavings, StandsWithin, SurvivesCrashes}
+use Rattle.promises.specs.ServingPromise.Headline.{tree_of_log}
+use Rattle.promises.specs.ServingPromise.Meanings.{cartridges}
 use Rattle.run_laws.specs.Memory.{HoldsAcked, acked_by, acked_in_count}
 
 abbrev IsUpTo : ℕ → Ack → Type 0

@@ -16,11 +16,11 @@ use Rattle.tape_drive.proofs.Exact.{gave_left, image_left}
 use Rattle.tape_drive.proofs.Since.{since_gave}
 use Rattle.cartridge_meaning.specs.Carried.{Carried}
 use Rattle.cartridge_meaning.specs.Meaning.{Stands}
-use Rattle.serving_promise.specs.Acks.{AreReached}
-use Rattle.serving_promise.specs.Crash.{IsSound, SurvivesCrashes}
-use Rattle.serving_promise.specs.Headline.{tree_of_log}
-use Rattle.serving_promise.specs.Meanings.{cartridges}
-use Rattle.serving_promise.specs.Served.{CanTell}
+use Rattle.promises.specs.ServingPromise.Acks.{AreReached}
+use Rattle.promises.specs.ServingPromise.Crash.{IsSound, SurvivesCrashes}
+use Rattle.promises.specs.ServingPromise.Headline.{tree_of_log}
+use Rattle.promises.specs.ServingPromise.Meanings.{cartridges}
+use Rattle.promises.specs.ServingPromise.Served.{CanTell}
 use Rattle.run_laws.proofs.Holding.{holds_now, holds_then}
 use Rattle.run_laws.specs.Memory.{HoldsAcked, IsReady, NewDrivesAreReady, RunSurvives, acked_by, in_memory}
 

@@ -6,3 +6,4 @@ pub mod Ends
 pub mod Runs
 pub mod Holding
 pub mod Images
+pub mod LogLaws

@@ -13,17 +13,17 @@ use Rattle.session_script.specs.declared.logs.Event.{Event}
 use Rattle.session_script.specs.declared.logs.Log.{Log}
 use Rattle.session_script.specs.declared.logs.Reply.{Reply}
 use Rattle.session_script.specs.declared.scripts.ScriptLine.{ScriptLine}
-use Rattle.event_laws.specs.Trail.{IsTrail, after_all, fault_of}
-use Rattle.event_laws.specs.Waiting.{is_at_rest}
+use Rattle.head_queue.specs.EventLaws.Trail.{IsTrail, after_all, fault_of}
+use Rattle.head_queue.specs.EventLaws.Waiting.{is_at_rest}
 use Rattle.tape_drive.specs.declared.drive.Drive.{Ghosts}
-use Rattle.serving_promise.specs.Acks.{AreAcks, AreReached, AreSyncs}
-use Rattle.serving_promise.specs.Asking.{AreOfReads}
-use Rattle.serving_promise.specs.Ends.{IsLogOf}
-use Rattle.serving_promise.specs.Faults.{AreFaults, kept_for, told_to}
-use Rattle.serving_promise.specs.Headline.{IsServedLog, last_fault}
-use Rattle.serving_promise.specs.Marks.{NothingWaits}
-use Rattle.serving_promise.specs.Served.{View}
-use Rattle.order_laws.specs.Kept.{seen}
+use Rattle.promises.specs.ServingPromise.Acks.{AreAcks, AreReached, AreSyncs}
+use Rattle.promises.specs.ServingPromise.Asking.{AreOfReads}
+use Rattle.promises.specs.ServingPromise.Ends.{IsLogOf}
+use Rattle.promises.specs.ServingPromise.Faults.{AreFaults, kept_for, told_to}
+use Rattle.promises.specs.ServingPromise.Headline.{IsServedLog, last_fault}
+use Rattle.promises.specs.ServingPromise.Marks.{NothingWaits}
+use Rattle.promises.specs.ServingPromise.Served.{View}
+use Rattle.promises.specs.OrderLaws.Kept.{seen}
 use Rattle.run_laws.specs.Laws.{IsPlayed}
 use Rattle.run_laws.proofs.Rests.{at_rest, keeps_none}
 use Rattle.run_laws.proofs.Rises.{last_within, rises_within}

@@ -8,13 +8,13 @@ use Rattle.std.proofs.lemmas.Option.{slice_get-map}
 use Rattle.tape_types.specs.declared.cartridges.Twin.{Twin}
 use Rattle.plain_tree.specs.declared.calls.Placed.{Placed}
 use Rattle.session_script.specs.declared.logs.Reply.{Reply}
-use Rattle.event_laws.specs.Trail.{drains_now}
-use Rattle.event_laws.specs.Waiting.{Request, State, Waiter, is_at_rest, is_calm}
-use Rattle.serving_promise.specs.Faults.{kept_for}
-use Rattle.serving_promise.specs.Marks.{NothingWaits, Phase, draining, idle, phase, waits}
-use Rattle.serving_promise.specs.Served.{AreMarks, AreWaiting}
-use Rattle.serving_promise.specs.declared.marks.Mark.{Mark}
-use Rattle.order_laws.proofs.Marked.{marked}
+use Rattle.head_queue.specs.EventLaws.Trail.{drains_now}
+use Rattle.head_queue.specs.EventLaws.Waiting.{Request, State, Waiter, is_at_rest, is_calm}
+use Rattle.promises.specs.ServingPromise.Faults.{kept_for}
+use Rattle.promises.specs.ServingPromise.Marks.{NothingWaits, Phase, draining, idle, phase, waits}
+use Rattle.promises.specs.ServingPromise.Served.{AreMarks, AreWaiting}
+use Rattle.promises.specs.declared.serving_promise.marks.Mark.{Mark}
+use Rattle.promises.proofs.OrderLaws.Marked.{marked}
 
 -- no place of a list of replies that are there has none
 none_lacks : (replies : List Reply) (k : ℕ) → slice_get (map Some replies) k ≡ Some None → ⊥

@@ -2,7 +2,7 @@
 use Rattle.std.specs.Prelude.{◌≤◌, ℕ, List, [], ◌∷◌, fold}
 use Rattle.std.proofs.Common.{arith}
 use Rattle.tape_types.specs.declared.cartridges.Twin.{Twin}
-use Rattle.serving_promise.specs.Faults.{AreRises}
+use Rattle.promises.specs.ServingPromise.Faults.{AreRises}
 
 -- they lie within a longer time too
 pub rises_within : (before now earlier later : ℕ) (faults : List Twin) → earlier ≤ before → now ≤ later

@@ -17,18 +17,18 @@ use Rattle.cartridge_meaning.specs.Carried.{Carried, carried}
 use Rattle.cartridge_meaning.specs.declared.mounted.Mounted.{Mounted}
 use Rattle.space_laws.specs.Closing.{closing}
 use Rattle.space_laws.specs.Standing.{Given, admitted}
-use Rattle.serving_promise.specs.Ends.{Closes, IsCloseShort, IsDoneClose, IsEnd, IsShortOnDp, LeavesTree, TellsNodes}
-use Rattle.serving_promise.specs.Headline.{IsTrueLog, tree_of_log}
-use Rattle.serving_promise.specs.Meanings.{cartridges}
-use Rattle.serving_promise.specs.Mount.{facts_of}
-use Rattle.serving_promise.specs.Replies.{AreReplies}
-use Rattle.serving_promise.specs.Served.{CanTell, IsTrue, View, given, given_of, queued, tree_after}
-use Rattle.serving_promise.specs.declared.answers.CloseEnd.{CloseEnd}
-use Rattle.serving_promise.specs.declared.answers.CloseEnd.TheVariants as ends
-use Rattle.order_laws.specs.Kept.{seen}
-use Rattle.log_laws.specs.Acts.{HasGone, IsServedThen, SurvivesThen}
-use Rattle.log_laws.specs.Logged.{IsAskedRightly}
-use Rattle.log_laws.proofs.Gone.{gone_also}
+use Rattle.promises.specs.ServingPromise.Ends.{Closes, IsCloseShort, IsDoneClose, IsEnd, IsShortOnDp, LeavesTree, TellsNodes}
+use Rattle.promises.specs.ServingPromise.Headline.{IsTrueLog, tree_of_log}
+use Rattle.promises.specs.ServingPromise.Meanings.{cartridges}
+use Rattle.promises.specs.ServingPromise.Mount.{facts_of}
+use Rattle.promises.specs.ServingPromise.Replies.{AreReplies}
+use Rattle.promises.specs.ServingPromise.Served.{CanTell, IsTrue, View, given, given_of, queued, tree_after}
+use Rattle.promises.specs.declared.serving_promise.answers.CloseEnd.{CloseEnd}
+use Rattle.promises.specs.declared.serving_promise.answers.CloseEnd.TheVariants as ends
+use Rattle.promises.specs.OrderLaws.Kept.{seen}
+use Rattle.run_laws.specs.LogLaws.Acts.{HasGone, IsServedThen, SurvivesThen}
+use Rattle.run_laws.specs.LogLaws.Logged.{IsAskedRightly}
+use Rattle.run_laws.proofs.LogLaws.Gone.{gone_also}
 use Rattle.run_laws.specs.Laws.{EndsSo, IsPlayed, PlaysAreRuns}
 use Rattle.run_laws.specs.Went.{IsFoundThen, IsRunBy, WentBy}
 use Rattle.run_laws.proofs.Began.{IsFound, ReadsAs, StandsSound, same_mounted, same_read, same_stood, same_stood_facts, told_read, told_stood}

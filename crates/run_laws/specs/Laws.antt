@@ -14,16 +14,16 @@ use Rattle.cartridge_meaning.specs.Carried.{carried}
 use Rattle.cartridge_meaning.specs.Meaning.{Reads}
 use Rattle.cartridge_meaning.specs.Mounts.{Mounts}
 use Rattle.cartridge_meaning.specs.declared.mounted.Mounted.{Mounted}
-use Rattle.serving_promise.specs.Ends.{Closes, TellsNodes}
-use Rattle.serving_promise.specs.Headline.{IsEndOf, Closed, Failed, Short, tree_of_log}
-use Rattle.serving_promise.specs.Marks.{NothingWaits}
-use Rattle.serving_promise.specs.Meanings.{cartridges}
-use Rattle.serving_promise.specs.Served.{CanTell, IsServed, View}
-use Rattle.serving_promise.specs.declared.answers.CloseEnd.{CloseEnd}
-use Rattle.serving_promise.specs.declared.answers.CloseEnd.TheVariants as ends
-use Rattle.order_laws.specs.Kept.{seen}
-use Rattle.log_laws.specs.Acts.{IsGone}
-use Rattle.log_laws.specs.Logged.{IsLogged}
+use Rattle.promises.specs.ServingPromise.Ends.{Closes, TellsNodes}
+use Rattle.promises.specs.ServingPromise.Headline.{IsEndOf, Closed, Failed, Short, tree_of_log}
+use Rattle.promises.specs.ServingPromise.Marks.{NothingWaits}
+use Rattle.promises.specs.ServingPromise.Meanings.{cartridges}
+use Rattle.promises.specs.ServingPromise.Served.{CanTell, IsServed, View}
+use Rattle.promises.specs.declared.serving_promise.answers.CloseEnd.{CloseEnd}
+use Rattle.promises.specs.declared.serving_promise.answers.CloseEnd.TheVariants as ends
+use Rattle.promises.specs.OrderLaws.Kept.{seen}
+use Rattle.run_laws.specs.LogLaws.Acts.{IsGone}
+use Rattle.run_laws.specs.LogLaws.Logged.{IsLogged}
 use Rattle.run_laws.specs.Went.{IsRunBy}
 
 -- A volume was begun over a drive that had only been looked at since a run began, to mount it. Of crashes is spoken

@@ -1,3 +1,4 @@
 pub mod Went
 pub mod Laws
 pub mod Memory
+pub mod LogLaws

@@ -13,12 +13,12 @@ use Rattle.cartridge_meaning.specs.Carried.{Carried, carried}
 use Rattle.cartridge_meaning.specs.Meaning.{Reads}
 use Rattle.cartridge_meaning.specs.Mounts.{Mounts}
 use Rattle.cartridge_meaning.specs.declared.mounted.Mounted.{Mounted}
-use Rattle.serving_promise.specs.Crash.{IsSound}
-use Rattle.serving_promise.specs.Headline.{IsServeRun}
-use Rattle.serving_promise.specs.Meanings.{cartridges}
-use Rattle.serving_promise.specs.Served.{CanTell}
-use Rattle.order_laws.specs.Kept.{seen}
-use Rattle.log_laws.specs.Acts.{HasGone, SurvivesThen}
+use Rattle.promises.specs.ServingPromise.Crash.{IsSound}
+use Rattle.promises.specs.ServingPromise.Headline.{IsServeRun}
+use Rattle.promises.specs.ServingPromise.Meanings.{cartridges}
+use Rattle.promises.specs.ServingPromise.Served.{CanTell}
+use Rattle.promises.specs.OrderLaws.Kept.{seen}
+use Rattle.run_laws.specs.LogLaws.Acts.{HasGone, SurvivesThen}
 
 -- What a crash may have left by a moment, at which so much had been placed and acknowledged: it is said where the
 -- cartridge stood for its tree and was sound as the run began.

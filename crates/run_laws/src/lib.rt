@@ -2,6 +2,7 @@
 #![tactic(auto)]
 
 mod laws;
+pub mod log_laws;
 mod memory;
 
 pub use laws::plays_are_runs;

@@ -12,11 +12,11 @@ use Rattle.cartridge_meaning.specs.Carried.{Carried, carried}
 use Rattle.cartridge_meaning.specs.Meaning.{Reads, Stands}
 use Rattle.cartridge_meaning.specs.Mounts.{Mounts}
 use Rattle.cartridge_meaning.specs.declared.mounted.Mounted.{Mounted}
-use Rattle.serving_promise.specs.Crash.{IsSound}
-use Rattle.serving_promise.specs.Meanings.{cartridges}
-use Rattle.serving_promise.specs.Served.{CanTell}
-use Rattle.crash_laws.specs.May.{AllowsServed, MayServe, MayStart}
-use Rattle.crash_laws.specs.Safe.{seen_by}
+use Rattle.promises.specs.ServingPromise.Crash.{IsSound}
+use Rattle.promises.specs.ServingPromise.Meanings.{cartridges}
+use Rattle.promises.specs.ServingPromise.Served.{CanTell}
+use Rattle.promises.specs.CrashLaws.May.{AllowsServed, MayServe, MayStart}
+use Rattle.promises.specs.CrashLaws.Safe.{seen_by}
 use Rattle.run_laws.proofs.Began.{same_stood, same_stood_facts, told_stood}
 
 module _ {D : Type 0} (drive : Ghosts D) (most : ℕ) (start first : D) (looked : Looks drive most start first)

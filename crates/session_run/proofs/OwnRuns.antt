@@ -15,13 +15,13 @@ use Rattle.cartridge_meaning.specs.Mounts.{Mounts}
 use Rattle.cartridge_meaning.specs.Pointers.{indexes_of}
 use Rattle.cartridge_meaning.specs.declared.mounted.Mounted.{Mounted}
 use Rattle.space_laws.specs.Standing.{Given}
-use Rattle.serving_promise.specs.Ends.{Closes}
-use Rattle.serving_promise.specs.Meanings.{cartridges}
-use Rattle.serving_promise.specs.Served.{CanTell, View}
-use Rattle.serving_promise.specs.declared.answers.CloseEnd.{CloseEnd}
-use Rattle.serving_promise.specs.declared.answers.CloseEnd.TheVariants as close_ends
-use Rattle.order_laws.specs.Kept.{seen}
-use Rattle.closing_laws.specs.Owned.{HasOwn, all_places}
+use Rattle.promises.specs.ServingPromise.Ends.{Closes}
+use Rattle.promises.specs.ServingPromise.Meanings.{cartridges}
+use Rattle.promises.specs.ServingPromise.Served.{CanTell, View}
+use Rattle.promises.specs.declared.serving_promise.answers.CloseEnd.{CloseEnd}
+use Rattle.promises.specs.declared.serving_promise.answers.CloseEnd.TheVariants as close_ends
+use Rattle.promises.specs.OrderLaws.Kept.{seen}
+use Rattle.volume_state.specs.ClosingLaws.Owned.{HasOwn, all_places}
 use Rattle.volume_core.specs.Promised.{LeavesOwnIndexes}
 use Rattle.run_laws.specs.Laws.{IsPlayed}
 use Rattle.run_laws.proofs.Runs as runs

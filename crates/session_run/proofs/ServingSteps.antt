@@ -6,7 +6,7 @@ use Rattle.tape_types.specs.declared.cartridges.Limits.{Limits}
 use Rattle.tape_types.specs.declared.cartridges.Twin.{Twin}
 use Rattle.tape_types.specs.declared.moments.Moment.{Moment}
 use Rattle.session_script.specs.declared.scripts.ScriptLine.{ScriptLine}
-use Rattle.event_laws.specs.Trail.{fault_of, steps, travel}
+use Rattle.head_queue.specs.EventLaws.Trail.{fault_of, steps, travel}
 use Rattle.tape_drive.specs.declared.drive.Drive.{Ghosts}
 use Rattle.cartridge_meaning.specs.Carried.{carried}
 use Rattle.cartridge_meaning.specs.Mounts.{IsMount, Mounts}
@@ -17,14 +17,14 @@ use Rattle.mount_recover.specs.Known.{mount_most}
 use Rattle.mount_recover.specs.Labels.{AreCounts}
 use Rattle.mount_recover.specs.Lasts.{IsSoundMount}
 use Rattle.mount_recover.specs.Steps.{Blames}
-use Rattle.serving_promise.specs.Ends.{Closes, Starts, begun, bounded}
-use Rattle.serving_promise.specs.Faults.{AreRises}
-use Rattle.serving_promise.specs.Meanings.{cartridges}
-use Rattle.serving_promise.specs.Served.{Fixed, View}
-use Rattle.serving_promise.specs.declared.answers.CloseEnd.{CloseEnd}
-use Rattle.serving_promise.specs.declared.answers.CloseEnd.TheVariants as close_ends
-use Rattle.serving_promise.specs.declared.contract.Closed.{Closed}
-use Rattle.order_laws.specs.Kept.{seen}
+use Rattle.promises.specs.ServingPromise.Ends.{Closes, Starts, begun, bounded}
+use Rattle.promises.specs.ServingPromise.Faults.{AreRises}
+use Rattle.promises.specs.ServingPromise.Meanings.{cartridges}
+use Rattle.promises.specs.ServingPromise.Served.{Fixed, View}
+use Rattle.promises.specs.declared.serving_promise.answers.CloseEnd.{CloseEnd}
+use Rattle.promises.specs.declared.serving_promise.answers.CloseEnd.TheVariants as close_ends
+use Rattle.promises.specs.declared.serving_promise.contract.Closed.{Closed}
+use Rattle.promises.specs.OrderLaws.Kept.{seen}
 use Rattle.run_laws.specs.Laws.{IsPlayed, IsRun, PlaysAreRuns}
 use Rattle.volume_core.specs.Promised.{LeavesOwnIndexes}
 use Rattle.session_run.proofs.OwnRuns.{own_on_top}
@@ -35,7 +35,7 @@ use Rattle.session_run.specs.Serving.{EndsSo, HoldsTree, IsBegun, IsLookedAt, Is
 use Rattle.session_run.specs.declared.ends.ServeEnd.{ServeEnd}
 use Rattle.session_run.specs.declared.ends.Served.{Served}
 use Rattle.mount_recover.proofs.LabelRanges.{block_in_range, letters_in_range}
-use Rattle.basic_commands.proofs.Told.{if_some, of_some}
+use Rattle.commands.proofs.BasicCommands.Told.{if_some, of_some}
 
 -- what was mounted can be served
 pub is_mount : (limits : Limits) (m : Mounted) → IsSoundMount limits m → IsMount limits m

@@ -16,13 +16,13 @@ use Rattle.tape_drive.specs.declared.drive.Drive.{Ghosts}
 use Rattle.tape_desk.specs.Passes.{AreAll, AreDealt, ArePartsOf, DeskView, IsPartOf, IsRested}
 use Rattle.tape_desk.specs.Promised.{IsPromised}
 use Rattle.tape_desk.proofs.Shelved.{begun_keeps}
-use Rattle.log_laws.specs.Laws.{LogsGoOn}
-use Rattle.serving_promise.specs.Ends.{begun}
-use Rattle.serving_promise.specs.Marks.{NothingWaits, idle, phase, place_in}
-use Rattle.serving_promise.specs.Meanings.{cartridges}
-use Rattle.serving_promise.specs.Served.{Fixed, IsServed, View, placed_by}
-use Rattle.order_laws.specs.Kept.{seen}
-use Rattle.order_laws.proofs.Placing.{as_many_places}
+use Rattle.run_laws.specs.LogLaws.Laws.{LogsGoOn}
+use Rattle.promises.specs.ServingPromise.Ends.{begun}
+use Rattle.promises.specs.ServingPromise.Marks.{NothingWaits, idle, phase, place_in}
+use Rattle.promises.specs.ServingPromise.Meanings.{cartridges}
+use Rattle.promises.specs.ServingPromise.Served.{Fixed, IsServed, View, placed_by}
+use Rattle.promises.specs.OrderLaws.Kept.{seen}
+use Rattle.promises.proofs.OrderLaws.Placing.{as_many_places}
 use Rattle.session_run.specs.Ran.{IsDone, IsServedWhole}
 
 -- ---- sessions that the script doesn't have

@@ -6,8 +6,8 @@ use Rattle.session_script.specs.Sessions.{greatest_session}
 use Rattle.tape_drive.specs.declared.drive.Drive.{Ghosts}
 use Rattle.tape_desk.specs.Passes.{DeskView, IsRested}
 use Rattle.tape_desk.specs.Promised.{IsPromised}
-use Rattle.serving_promise.specs.Marks.{NothingWaits}
-use Rattle.serving_promise.specs.Served.{View}
+use Rattle.promises.specs.ServingPromise.Marks.{NothingWaits}
+use Rattle.promises.specs.ServingPromise.Served.{View}
 use Rattle.session_run.specs.declared.ran.RanEnd.{RanEnd}
 use Rattle.session_run.specs.declared.ran.RanEnd.TheVariants as ends
 

@@ -7,7 +7,7 @@ use Rattle.tape_types.specs.declared.moments.Moment.{Moment}
 use Rattle.plain_tree.specs.Tree.{Tree}
 use Rattle.session_script.specs.declared.logs.Log.{Log}
 use Rattle.session_script.specs.declared.scripts.ScriptLine.{ScriptLine}
-use Rattle.event_laws.specs.Trail.{steps, travel}
+use Rattle.head_queue.specs.EventLaws.Trail.{steps, travel}
 use Rattle.tape_drive.specs.Looks.{Looks}
 use Rattle.tape_drive.specs.declared.drive.Drive.{Ghosts}
 use Rattle.mount_recover.specs.Known.{mount_most}
@@ -22,17 +22,17 @@ use Rattle.cartridge_meaning.specs.declared.errors.MountErr.{MountErr}
 use Rattle.cartridge_meaning.specs.declared.errors.MountErr.TheVariants as errors
 use Rattle.cartridge_meaning.specs.declared.labels.Labels.{Labels}
 use Rattle.cartridge_meaning.specs.declared.mounted.Mounted.{Mounted}
-use Rattle.serving_promise.specs.Ends.{bounded}
-use Rattle.serving_promise.specs.Headline.{Closed, Failed, IsEndOf, IsOn, Short, tree_of_log}
-use Rattle.serving_promise.specs.Meanings.{cartridges}
-use Rattle.serving_promise.specs.Served.{CanTell, Fixed, given_of}
-use Rattle.serving_promise.specs.declared.answers.CloseEnd.{CloseEnd}
-use Rattle.serving_promise.specs.declared.answers.CloseEnd.TheVariants as closes
-use Rattle.order_laws.specs.Kept.{seen}
-use Rattle.closing_laws.specs.Owned.{HasOwn, all_places}
+use Rattle.promises.specs.ServingPromise.Ends.{bounded}
+use Rattle.promises.specs.ServingPromise.Headline.{Closed, Failed, IsEndOf, IsOn, Short, tree_of_log}
+use Rattle.promises.specs.ServingPromise.Meanings.{cartridges}
+use Rattle.promises.specs.ServingPromise.Served.{CanTell, Fixed, given_of}
+use Rattle.promises.specs.declared.serving_promise.answers.CloseEnd.{CloseEnd}
+use Rattle.promises.specs.declared.serving_promise.answers.CloseEnd.TheVariants as closes
+use Rattle.promises.specs.OrderLaws.Kept.{seen}
+use Rattle.volume_state.specs.ClosingLaws.Owned.{HasOwn, all_places}
 use Rattle.run_laws.specs.Went.{IsRunBy}
-use Rattle.basic_commands.specs.Formats.{full_text}
-use Rattle.basic_commands.specs.Labels.{mount_status, mount_text}
+use Rattle.commands.specs.BasicCommands.Formats.{full_text}
+use Rattle.commands.specs.BasicCommands.Labels.{mount_status, mount_text}
 use Rattle.session_run.specs.declared.ends.ServeEnd.{ServeEnd}
 use Rattle.session_run.specs.declared.ends.ServeEnd.TheVariants as ends
 use Rattle.session_run.specs.declared.ends.Served.{Served}

@@ -3,9 +3,9 @@
 ghost use Rattle.std.specs.Prelude.{◌≡◌, Some, IfOk};
 ghost use Rattle.session_run.specs.Serving.{closed_end, end_line, mount_end};
 
-use basic_commands::{bytes_of, drive_text, full_text, mount_text};
 use cartridge_meaning::MountErr;
-use serving_promise::{CloseEnd, Closed};
+use commands::basic_commands::{bytes_of, drive_text, full_text, mount_text};
+use promises::serving_promise::{CloseEnd, Closed};
 use session_script::Log;
 use std::alloc::Global;
 use tape_types::{Bytes, NoMemory, Twin};

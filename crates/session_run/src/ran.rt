@@ -2,12 +2,12 @@
 
 ghost use Rattle.std.specs.Prelude.{◌≡◌, ◌≤◌};
 ghost use Rattle.session_script.specs.Sessions.{greatest_session};
-ghost use Rattle.serving_promise.specs.Ends.{begun};
+ghost use Rattle.promises.specs.ServingPromise.Ends.{begun};
 ghost use Rattle.session_run.specs.Ran.{HasRun};
 
 use crate::host::Host;
 use crate::threads::make_all;
-use log_laws::logs_go_on;
+use run_laws::log_laws::logs_go_on;
 use std::sync::Wait;
 use std::thread::Threads;
 use tape_desk::Desk;

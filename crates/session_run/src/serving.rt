@@ -3,8 +3,8 @@
 ghost use Rattle.std.specs.Prelude.{◌≡◌, ◌≤◌, ◌-◌, ◌^◌, IfSome};
 ghost use Rattle.cartridge_meaning.specs.Mounts.{IsMount, Mounts};
 ghost use Rattle.cartridge_meaning.specs.Notes.{HasHonestNotes};
-ghost use Rattle.serving_promise.specs.Ends.{begun};
-ghost use Rattle.crash_laws.specs.May.{MayServe, MayStart};
+ghost use Rattle.promises.specs.ServingPromise.Ends.{begun};
+ghost use Rattle.promises.specs.CrashLaws.May.{MayServe, MayStart};
 ghost use Rattle.session_run.specs.Serving.{IsBegun, IsLookedAt, Whole};
 
 use crate::ends::{ServeEnd, Served, mount_end, of_close};
@@ -12,8 +12,8 @@ use crate::host::Host;
 use crate::ran::{Ran, RanEnd, run_sessions};
 use cartridge_meaning::Mounted;
 use mount_recover::mount;
+use promises::serving_promise::Kept;
 use run_laws::plays_are_runs;
-use serving_promise::Kept;
 use session_script::Script;
 use std::snapshot::Snapshot;
 use std::sync::Wait;

@@ -2,7 +2,7 @@
 
 ghost use Rattle.std.specs.Prelude.{◌≡◌, IfSome};
 ghost use Rattle.tape_edge.specs.Clocks.{IsSince1970};
-ghost use Rattle.basic_commands.specs.Headline.{IsMoment};
+ghost use Rattle.commands.specs.BasicCommands.Headline.{IsMoment};
 ghost use Rattle.session_run.specs.Timed.{one_moment};
 
 use std::marker::Model;

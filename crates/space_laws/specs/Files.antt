@@ -14,7 +14,7 @@ use Rattle.plain_tree.specs.declared.nodes.Kind.TheVariants as plain_kinds
 use Rattle.extent_map.specs.Laid.{Laid}
 use Rattle.file_tree.specs.Mounts.{Letters, laid_of}
 use Rattle.file_tree.specs.Told.{letter_of, raw_of, place_of, name_or}
-use Rattle.node_keys.specs.Keys.{list_of}
+use Rattle.tape_types.specs.NodeKeys.Keys.{list_of}
 use Rattle.index_model.specs.Canonical.{canonical}
 use Rattle.index_model.specs.Values.{IndexValue, Nodes, no_nodes, directory, file, link, facts_of, volume_of}
 use Rattle.index_model.specs.declared.indexes.Index.{Index}

@@ -26,7 +26,7 @@ use Rattle.extent_map.specs.Laid.{overlaid, resized}
 use Rattle.space_laws.specs.Mount.{MountFacts}
 use Rattle.tape_layout.specs.declared.ops.Op.{Op}
 use Rattle.tape_layout.specs.Ops.{end_of}
-use Rattle.placement.specs.Computed.{chooses_ip}
+use Rattle.tape_layout.specs.PlacementPolicy.Computed.{chooses_ip}
 use Rattle.space_laws.specs.Files.{Files, mounted_files, with_file, index_at, canon}
 use Rattle.space_laws.specs.Space as space
 use Rattle.space_laws.specs.Space.{Space, Rules, Ask, nothing, change, store, index, first_space, part_for, need_of}

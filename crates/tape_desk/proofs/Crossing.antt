@@ -10,7 +10,7 @@ use Rattle.block_cache.proofs.Crossing.{cache_send}
 use Rattle.held_volume.specs.contracts.stocks.Stock as stocks
 use Rattle.event_journal.specs.contracts.placements.Placements as placements
 use Rattle.waiting_reads.specs.contracts.readings.Readings as readings
-use Rattle.volume_steps.specs.contracts.parts.Parts as parts
+use Rattle.volume_core.specs.contracts.volume_steps.parts.Parts as parts
 use Rattle.volume_core.specs.contracts.volume.Volume as volumes
 use Rattle.volume_core.specs.contracts.volume.Volume.TheInside as volume
 use Rattle.turn_lock.proofs.Crossing as crossing

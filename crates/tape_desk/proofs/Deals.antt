@@ -8,9 +8,9 @@ use Rattle.session_script.specs.Grammar.{calls_of}
 use Rattle.session_script.specs.Sessions.{greatest_session}
 use Rattle.turn_lock.specs.Histories.{numbers_to}
 use Rattle.turn_lock.specs.Passes.{PassView, first_pass, with_numbers}
-use Rattle.serving_promise.specs.Ends.{begun}
-use Rattle.serving_promise.specs.Served.{Fixed, View}
-use Rattle.serving_promise.specs.declared.marks.Mark.{Mark}
+use Rattle.promises.specs.ServingPromise.Ends.{begun}
+use Rattle.promises.specs.ServingPromise.Served.{Fixed, View}
+use Rattle.promises.specs.declared.serving_promise.marks.Mark.{Mark}
 use Rattle.tape_desk.specs.Passes.{AreDealt, DeskView, IsHeld, IsNew, view_of}
 use Rattle.tape_desk.specs.Dealing.{AreCounts, AreDealtAfter, CanBegin, CanDeal, HasDealt, of_numbers}
 

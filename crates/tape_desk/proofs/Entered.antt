@@ -8,10 +8,10 @@ use Rattle.std.proofs.lemmas.List.Sums.{fold-append}
 use Rattle.turn_lock.specs.Histories.{AddsOwn, own_entries}
 use Rattle.turn_lock.specs.Sums.{times}
 use Rattle.turn_lock.proofs.Callers.{adds_more}
-use Rattle.serving_promise.specs.Marks.{after, hand_in, hands_of, idle, kinds_of, mark, phase, place_in, places_of}
-use Rattle.serving_promise.specs.declared.marks.MarkKind.{MarkKind}
-use Rattle.serving_promise.specs.declared.marks.Mark.{Mark}
-use Rattle.order_laws.proofs.Marked.{kinds_more as marks_more}
+use Rattle.promises.specs.ServingPromise.Marks.{after, hand_in, hands_of, idle, kinds_of, mark, phase, place_in, places_of}
+use Rattle.promises.specs.declared.serving_promise.marks.MarkKind.{MarkKind}
+use Rattle.promises.specs.declared.serving_promise.marks.Mark.{Mark}
+use Rattle.promises.proofs.OrderLaws.Marked.{kinds_more as marks_more}
 
 -- ---- entries of one's only number
 

@@ -11,10 +11,10 @@ use Rattle.session_script.specs.declared.logs.Reply.{Reply}
 use Rattle.turn_lock.specs.Histories.{Sees}
 use Rattle.turn_lock.specs.Passes.{PassView, joined}
 use Rattle.tape_drive.specs.declared.drive.Drive.{Ghosts}
-use Rattle.serving_promise.specs.Marks.{NothingWaits, after, hand_in, hands_of, idle, kinds_of, phase}
-use Rattle.serving_promise.specs.Served.{Fixed, View}
-use Rattle.serving_promise.specs.declared.marks.MarkKind.{MarkKind}
-use Rattle.serving_promise.specs.declared.marks.Mark.{Mark}
+use Rattle.promises.specs.ServingPromise.Marks.{NothingWaits, after, hand_in, hands_of, idle, kinds_of, phase}
+use Rattle.promises.specs.ServingPromise.Served.{Fixed, View}
+use Rattle.promises.specs.declared.serving_promise.marks.MarkKind.{MarkKind}
+use Rattle.promises.specs.declared.serving_promise.marks.Mark.{Mark}
 use Rattle.tape_desk.specs.Passes.{AreAll, ArePartsOf, DeskView, IsHeld, IsPartOf, IsRested, view_of}
 use Rattle.tape_desk.specs.Promised.{IsPromised}
 use Rattle.tape_desk.specs.Gathering.{HasGathered, IsPassOf, IsWithin, TakesIn}

@@ -7,11 +7,11 @@ use Rattle.turn_lock.specs.Passes.{PassView}
 use Rattle.session_script.specs.Grammar.{calls_of}
 use Rattle.session_script.specs.Sessions.{greatest_session}
 use Rattle.session_script.specs.declared.logs.Reply.{Reply}
-use Rattle.serving_promise.specs.Marks.{Phase, after, hand_in, hands_of, idle, kinds_of, phase, place_in, places_of, waits}
-use Rattle.serving_promise.specs.Served.{Fixed}
-use Rattle.serving_promise.specs.declared.marks.MarkKind.{MarkKind}
-use Rattle.serving_promise.specs.declared.marks.MarkKind.TheVariants.{Places as places, Hands as hands, Begins as begins, Rests as rests}
-use Rattle.serving_promise.specs.declared.marks.Mark.{Mark}
+use Rattle.promises.specs.ServingPromise.Marks.{Phase, after, hand_in, hands_of, idle, kinds_of, phase, place_in, places_of, waits}
+use Rattle.promises.specs.ServingPromise.Served.{Fixed}
+use Rattle.promises.specs.declared.serving_promise.marks.MarkKind.{MarkKind}
+use Rattle.promises.specs.declared.serving_promise.marks.MarkKind.TheVariants.{Places as places, Hands as hands, Begins as begins, Rests as rests}
+use Rattle.promises.specs.declared.serving_promise.marks.Mark.{Mark}
 use Rattle.tape_desk.specs.Passes.{DeskView, HasMore, IsHeld, view_of}
 use Rattle.tape_desk.specs.Turns.{GoesOn, IsMade, IsPutOff, Keeps, answered_at}
 use Rattle.tape_desk.proofs.Entered.{hands_then, phase_then, places_then}

@@ -8,9 +8,9 @@ use native.Mathlib.Decide.{ℕ_discrete}
 use Rattle.turn_lock.specs.Sums.{times}
 use Rattle.turn_lock.specs.Histories.{Sees, own_entries}
 use Rattle.turn_lock.proofs.Callers.{own_of_one}
-use Rattle.serving_promise.specs.Marks.{kinds_of}
-use Rattle.serving_promise.specs.declared.marks.MarkKind.{MarkKind}
-use Rattle.serving_promise.specs.declared.marks.Mark.{Mark}
+use Rattle.promises.specs.ServingPromise.Marks.{kinds_of}
+use Rattle.promises.specs.declared.serving_promise.marks.MarkKind.{MarkKind}
+use Rattle.promises.specs.declared.serving_promise.marks.Mark.{Mark}
 
 -- the session of a mark
 abbrev pub who_of : Mark → ℕ

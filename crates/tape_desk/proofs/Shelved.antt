@@ -5,22 +5,22 @@ use Rattle.std.proofs.lemmas.List.{length_push}
 use Rattle.tape_drive.specs.declared.drive.Drive.{Ghosts}
 use Rattle.plain_tree.specs.declared.calls.Fate.{Fate}
 use Rattle.session_script.specs.declared.logs.Reply.{Reply}
-use Rattle.serving_promise.specs.Ends.{begun}
-use Rattle.serving_promise.specs.Marks.{draining, mark, marks_of_drain, marks_of_submit, marks_of_turn, phase, waits}
-use Rattle.serving_promise.specs.Meanings.{cartridges}
-use Rattle.serving_promise.specs.Served.{Drive, IsServed, View}
-use Rattle.serving_promise.specs.Steps.{DrainsOnce, OnlyAnswers, Turns}
-use Rattle.serving_promise.specs.Submits.{CanSubmit, Places, Submits}
-use Rattle.serving_promise.specs.declared.answers.Drained.{Drained}
-use Rattle.serving_promise.specs.declared.answers.Drained.TheVariants as drained
-use Rattle.serving_promise.specs.declared.answers.Submitted.{Submitted}
-use Rattle.serving_promise.specs.declared.answers.Submitted.TheVariants as submitted
-use Rattle.serving_promise.specs.declared.answers.Turn.{Turn}
-use Rattle.serving_promise.specs.declared.answers.Turn.TheVariants as turns
-use Rattle.order_laws.specs.Kept.{seen}
-use Rattle.log_laws.specs.Acts.{IsGone, Moves}
-use Rattle.log_laws.specs.Laws.{LogsGoOn}
-use Rattle.log_laws.specs.Logged.{IsLogged}
+use Rattle.promises.specs.ServingPromise.Ends.{begun}
+use Rattle.promises.specs.ServingPromise.Marks.{draining, mark, marks_of_drain, marks_of_submit, marks_of_turn, phase, waits}
+use Rattle.promises.specs.ServingPromise.Meanings.{cartridges}
+use Rattle.promises.specs.ServingPromise.Served.{Drive, IsServed, View}
+use Rattle.promises.specs.ServingPromise.Steps.{DrainsOnce, OnlyAnswers, Turns}
+use Rattle.promises.specs.ServingPromise.Submits.{CanSubmit, Places, Submits}
+use Rattle.promises.specs.declared.serving_promise.answers.Drained.{Drained}
+use Rattle.promises.specs.declared.serving_promise.answers.Drained.TheVariants as drained
+use Rattle.promises.specs.declared.serving_promise.answers.Submitted.{Submitted}
+use Rattle.promises.specs.declared.serving_promise.answers.Submitted.TheVariants as submitted
+use Rattle.promises.specs.declared.serving_promise.answers.Turn.{Turn}
+use Rattle.promises.specs.declared.serving_promise.answers.Turn.TheVariants as turns
+use Rattle.promises.specs.OrderLaws.Kept.{seen}
+use Rattle.run_laws.specs.LogLaws.Acts.{IsGone, Moves}
+use Rattle.run_laws.specs.LogLaws.Laws.{LogsGoOn}
+use Rattle.run_laws.specs.LogLaws.Logged.{IsLogged}
 use Rattle.tape_desk.specs.Promised.{IsPromised}
 use Rattle.tape_desk.specs.Turns.{kinds_of_drain, kinds_of_submit, kinds_of_turn}
 

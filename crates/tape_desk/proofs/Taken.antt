@@ -4,11 +4,11 @@ use Rattle.std.proofs.Common.{refl, sym, ap, subst, ◌∙◌, append_assoc}
 use Rattle.turn_lock.specs.Histories.{AddsOwn, Sees, own_entries}
 use Rattle.turn_lock.specs.Passes.{PassView, entered, left_at}
 use Rattle.session_script.specs.Grammar.{calls_of}
-use Rattle.serving_promise.specs.Marks.{Phase, after, idle, kinds_of, mark, phase, place_in}
-use Rattle.serving_promise.specs.Served.{Fixed, View}
-use Rattle.serving_promise.specs.Submits.{CanSubmit}
-use Rattle.serving_promise.specs.declared.marks.MarkKind.{MarkKind}
-use Rattle.serving_promise.specs.declared.marks.Mark.{Mark}
+use Rattle.promises.specs.ServingPromise.Marks.{Phase, after, idle, kinds_of, mark, phase, place_in}
+use Rattle.promises.specs.ServingPromise.Served.{Fixed, View}
+use Rattle.promises.specs.ServingPromise.Submits.{CanSubmit}
+use Rattle.promises.specs.declared.serving_promise.marks.MarkKind.{MarkKind}
+use Rattle.promises.specs.declared.serving_promise.marks.Mark.{Mark}
 use Rattle.tape_desk.specs.Turns.{CanPlace, GoesOn, IsOwn}
 use Rattle.tape_desk.proofs.Entered.{kinds_more, own_more, same_kinds}
 

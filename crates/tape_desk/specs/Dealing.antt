@@ -5,8 +5,8 @@ use Rattle.session_script.specs.Grammar.{calls_of}
 use Rattle.session_script.specs.Sessions.{greatest_session}
 use Rattle.turn_lock.specs.Histories.{numbers_to}
 use Rattle.turn_lock.specs.Passes.{PassView, first_pass, with_numbers}
-use Rattle.serving_promise.specs.Served.{Fixed}
-use Rattle.serving_promise.specs.declared.marks.Mark.{Mark}
+use Rattle.promises.specs.ServingPromise.Served.{Fixed}
+use Rattle.promises.specs.declared.serving_promise.marks.Mark.{Mark}
 use Rattle.tape_desk.specs.Passes.{DeskView, IsNew}
 
 -- how many calls the script has for each of the sessions, in order

@@ -2,9 +2,9 @@
 use Rattle.std.specs.Prelude.{ℕ, ◌≡◌, ◌≤◌, ◌<◌, ◌+◌, false, List, [], ◌∷◌, ◌++◌, Contains, length, slice_index_or}
 use Rattle.atomic_table.specs.Seated.{TableId}
 use Rattle.turn_lock.specs.Passes.{PassView}
-use Rattle.serving_promise.specs.Marks.{kinds_of}
-use Rattle.serving_promise.specs.Served.{Fixed}
-use Rattle.serving_promise.specs.declared.marks.Mark.{Mark}
+use Rattle.promises.specs.ServingPromise.Marks.{kinds_of}
+use Rattle.promises.specs.ServingPromise.Served.{Fixed}
+use Rattle.promises.specs.declared.serving_promise.marks.Mark.{Mark}
 use Rattle.tape_desk.specs.Passes.{DeskView, IsRested, view_of}
 
 -- the lock's pass that a session's pass has

@@ -6,9 +6,9 @@ use Rattle.session_script.specs.Grammar.{calls_of}
 use Rattle.session_script.specs.Sessions.{greatest_session}
 use Rattle.session_script.specs.declared.logs.Reply.{Reply}
 use Rattle.turn_lock.specs.Passes.{PassView}
-use Rattle.serving_promise.specs.Marks.{hands_of, idle, kinds_of, phase, places_of}
-use Rattle.serving_promise.specs.Served.{Fixed, View}
-use Rattle.serving_promise.specs.declared.marks.Mark.{Mark}
+use Rattle.promises.specs.ServingPromise.Marks.{hands_of, idle, kinds_of, phase, places_of}
+use Rattle.promises.specs.ServingPromise.Served.{Fixed, View}
+use Rattle.promises.specs.declared.serving_promise.marks.Mark.{Mark}
 
 -- A pass is of one desk, which so many sessions share. Its session `who` has placed so many of its calls. It has seen
 -- so much of the volume's list of marks, and knows what no call changes of the volume.

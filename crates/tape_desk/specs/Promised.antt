@@ -1,11 +1,11 @@
 -- What stays true of a volume whatever its sessions ask of it.
 use Rattle.std.specs.Prelude.{◌≡◌, length}
 use Rattle.tape_drive.specs.declared.drive.Drive.{Ghosts}
-use Rattle.serving_promise.specs.Meanings.{cartridges}
-use Rattle.serving_promise.specs.Served.{IsServed, View}
-use Rattle.order_laws.specs.Kept.{seen}
-use Rattle.log_laws.specs.Acts.{IsGone}
-use Rattle.log_laws.specs.Logged.{IsLogged}
+use Rattle.promises.specs.ServingPromise.Meanings.{cartridges}
+use Rattle.promises.specs.ServingPromise.Served.{IsServed, View}
+use Rattle.promises.specs.OrderLaws.Kept.{seen}
+use Rattle.run_laws.specs.LogLaws.Acts.{IsGone}
+use Rattle.run_laws.specs.LogLaws.Logged.{IsLogged}
 
 -- all that is promised of a served volume and of its log; each step of it was an act of the drive; and each placement has
 -- its place among the replies

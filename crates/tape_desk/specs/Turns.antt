@@ -4,18 +4,18 @@ use Rattle.session_script.specs.Grammar.{calls_of}
 use Rattle.session_script.specs.declared.logs.Reply.{Reply}
 use Rattle.session_script.specs.declared.logs.Reply.TheVariants as replies
 use Rattle.turn_lock.specs.Passes.{PassView}
-use Rattle.serving_promise.specs.Marks.{hands_of, idle, kinds_of, phase, places_of}
-use Rattle.serving_promise.specs.Served.{Fixed}
-use Rattle.serving_promise.specs.declared.answers.Drained.{Drained}
-use Rattle.serving_promise.specs.declared.answers.Drained.TheVariants as drained
-use Rattle.serving_promise.specs.declared.answers.Submitted.{Submitted}
-use Rattle.serving_promise.specs.declared.answers.Submitted.TheVariants as submitted
-use Rattle.serving_promise.specs.declared.answers.Turn.{Turn}
-use Rattle.serving_promise.specs.declared.answers.Turn.TheVariants as turns
-use Rattle.serving_promise.specs.declared.marks.MarkKind.{MarkKind}
-use Rattle.serving_promise.specs.declared.marks.MarkKind.TheVariants.{Places as places, Hands as hands, Begins as begins}
-use Rattle.serving_promise.specs.declared.marks.MarkKind.TheVariants.{Rests as rests}
-use Rattle.serving_promise.specs.declared.marks.Mark.{Mark}
+use Rattle.promises.specs.ServingPromise.Marks.{hands_of, idle, kinds_of, phase, places_of}
+use Rattle.promises.specs.ServingPromise.Served.{Fixed}
+use Rattle.promises.specs.declared.serving_promise.answers.Drained.{Drained}
+use Rattle.promises.specs.declared.serving_promise.answers.Drained.TheVariants as drained
+use Rattle.promises.specs.declared.serving_promise.answers.Submitted.{Submitted}
+use Rattle.promises.specs.declared.serving_promise.answers.Submitted.TheVariants as submitted
+use Rattle.promises.specs.declared.serving_promise.answers.Turn.{Turn}
+use Rattle.promises.specs.declared.serving_promise.answers.Turn.TheVariants as turns
+use Rattle.promises.specs.declared.serving_promise.marks.MarkKind.{MarkKind}
+use Rattle.promises.specs.declared.serving_promise.marks.MarkKind.TheVariants.{Places as places, Hands as hands, Begins as begins}
+use Rattle.promises.specs.declared.serving_promise.marks.MarkKind.TheVariants.{Rests as rests}
+use Rattle.promises.specs.declared.serving_promise.marks.Mark.{Mark}
 
 -- ---- which marks a turn adds
 

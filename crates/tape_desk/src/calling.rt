@@ -1,16 +1,16 @@
 //! A session's call, turn by turn.
 
 ghost use Rattle.std.specs.Prelude.{◌≡◌, ◌∷◌, [], ℕ};
-ghost use Rattle.serving_promise.specs.Marks.{draining, phase, waits};
-ghost use Rattle.serving_promise.specs.declared.marks.MarkKind.TheVariants.{Hands as hands};
+ghost use Rattle.promises.specs.ServingPromise.Marks.{draining, phase, waits};
+ghost use Rattle.promises.specs.declared.serving_promise.marks.MarkKind.TheVariants.{Hands as hands};
 ghost use Rattle.tape_desk.specs.Passes.{Calls, HasMore};
 ghost use Rattle.tape_desk.specs.Turns.{CanPlace, GoesOn, IsMade, IsOwn};
 ghost use Rattle.tape_desk.specs.Turns.{kinds_of_drain, kinds_of_submit, kinds_of_turn, kinds_of_wait};
 
 use crate::pass::DeskPass;
 use crate::shelf::Shelf;
-use log_laws::logs_go_on;
-use serving_promise::{Drained, Submitted, Turn};
+use promises::serving_promise::{Drained, Submitted, Turn};
+use run_laws::log_laws::logs_go_on;
 use session_script::Reply;
 use std::sync::Wait;
 use tape_drive::Drive;

@@ -2,7 +2,7 @@
 
 ghost use Rattle.std.specs.Prelude.{◌≡◌, false};
 ghost use Rattle.session_script.specs.Sessions.{greatest_session};
-ghost use Rattle.serving_promise.specs.Marks.{NothingWaits};
+ghost use Rattle.promises.specs.ServingPromise.Marks.{NothingWaits};
 ghost use Rattle.tape_desk.specs.Gathering.{IsPassOf, TakesIn};
 ghost use Rattle.tape_desk.specs.Passes.{AreAll, ArePartsOf};
 ghost use Rattle.tape_desk.specs.Promised.{IsPromised};

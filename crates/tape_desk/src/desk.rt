@@ -2,8 +2,8 @@
 
 ghost use Rattle.std.specs.Prelude.{◌≡◌, ◌≤◌, IfOk, IfErr};
 ghost use Rattle.session_script.specs.Sessions.{greatest_session};
-ghost use Rattle.serving_promise.specs.Ends.{begun};
-ghost use Rattle.serving_promise.specs.Marks.{NothingWaits};
+ghost use Rattle.promises.specs.ServingPromise.Ends.{begun};
+ghost use Rattle.promises.specs.ServingPromise.Marks.{NothingWaits};
 ghost use Rattle.tape_desk.specs.Passes.{AreAll, AreDealt, ArePartsOf, Calls, HasMore};
 ghost use Rattle.tape_desk.specs.Promised.{IsPromised};
 

@@ -2,14 +2,14 @@
 
 ghost use Rattle.std.specs.Prelude.{◌≡◌, ◌≤◌, ◌<◌, ◌∷◌, [], length, vec_capacity, IfOk, IfErr, IfSome, Some};
 ghost use Rattle.session_script.specs.Sessions.{greatest_session};
-ghost use Rattle.serving_promise.specs.Ends.{begun};
-ghost use Rattle.serving_promise.specs.Served.{Fixed};
+ghost use Rattle.promises.specs.ServingPromise.Ends.{begun};
+ghost use Rattle.promises.specs.ServingPromise.Served.{Fixed};
 ghost use Rattle.tape_desk.specs.Dealing.{AreCounts, CanBegin, CanDeal};
 ghost use Rattle.tape_desk.specs.Passes.{AreDealt, view_of};
 
 use crate::pass::DeskPass;
 use crate::shelf::Shelf;
-use log_laws::logs_go_on;
+use run_laws::log_laws::logs_go_on;
 use std::alloc::Global;
 use tape_drive::Drive;
 use tape_edge::Clock;

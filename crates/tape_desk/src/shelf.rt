@@ -3,7 +3,7 @@
 ghost use Rattle.std.specs.Prelude.{◌≡◌};
 ghost use Rattle.tape_desk.specs.Promised.{IsPromised};
 
-use serving_promise::Mark;
+use promises::serving_promise::Mark;
 use std::marker::Model;
 use std::snapshot::Snapshot;
 use tape_drive::Drive;
@@ -22,7 +22,7 @@ impl<D: Drive, C: Clock> Model for Shelf<D, C> {
     ghost use Rattle.std.specs.Coded.{codes, coded_list, coded_ℕ};
     ghost use Rattle.plain_tree.specs.Paths.{path_cmp};
     ghost use Rattle.plain_tree.specs.contracts.nodes.Node as node;
-    ghost use Rattle.serving_promise.specs.Served.{View};
+    ghost use Rattle.promises.specs.ServingPromise.Served.{View};
     ghost use Rattle.tape_desk.specs.Promised.{IsPromised};
 
     ghost Value = { View D };
@@ -44,7 +44,7 @@ impl<D: Drive, C: Clock> Model for Constant<D, C> {
     ghost use Rattle.std.specs.Coded.{codes, coded_list, coded_ℕ};
     ghost use Rattle.plain_tree.specs.Paths.{path_cmp};
     ghost use Rattle.plain_tree.specs.contracts.nodes.Node as node;
-    ghost use Rattle.serving_promise.specs.Served.{Fixed};
+    ghost use Rattle.promises.specs.ServingPromise.Served.{Fixed};
 
     ghost Value = { Fixed D };
 

@@ -9,7 +9,8 @@ ghost use Rattle.tape_types.specs.declared.cartridges.Note.TheVariants as kind;
 ghost use Rattle.tape_types.specs.Cartridges.{items_of, note_of, capacity, next, IsLimits, FitsLimits};
 ghost use Rattle.tape_drive.specs.Commands.{HasRoom, Commanded, item_at, IsRead, FillsBuffer, after_read, AfterWrite};
 ghost use Rattle.tape_drive.specs.Commands.{AfterNote};
-ghost use Rattle.tape_drive.specs.Crashes.{WithinWrite, WithinNote, WithinFlush, NothingNew, Crashes, IsSure, IsSettled};
+ghost use Rattle.tape_drive.specs.Crashes.{WithinWrite, WithinNote, WithinFlush, NothingNew, Crashes, IsSure};
+ghost use Rattle.tape_drive.specs.Crashes.{IsSettled};
 ghost use Rattle.tape_drive.specs.Crashes.{LeavesAllowed};
 
 use tape_types::{Limits, Note, Part, Place};

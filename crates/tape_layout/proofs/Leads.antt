@@ -5,8 +5,8 @@ use Rattle.std.specs.List.{range_with_len, All}
 use Rattle.std.proofs.lemmas.List.{length-take, length-drop, map-append}
 use Rattle.std.proofs.lemmas.List.Elements.{All-append}
 use Rattle.std.proofs.lemmas.List.FromFn.{length-map-range_with_len, get_or-map-range_with_len}
-use Rattle.index_construct.specs.Blocks.{block_at}
-use Rattle.index_construct.proofs.Cuts.{is_few}
+use Rattle.tape_layout.specs.IndexConstruct.Blocks.{block_at}
+use Rattle.tape_layout.proofs.IndexConstruct.Cuts.{is_few}
 use Rattle.tape_types.specs.declared.cartridges.Part.{Part}
 use Rattle.tape_types.specs.declared.cartridges.Part.TheVariants.{Ip, Dp}
 use Rattle.tape_types.specs.declared.cartridges.Limits.{Limits}

@@ -1,3 +1,5 @@
 pub mod Ops
 pub mod Admissions
 pub mod Plans
+pub mod IndexConstruct
+pub mod PlacementPolicy

@@ -9,7 +9,7 @@ use Rattle.tape_types.specs.declared.cartridges.Part.TheVariants.{Ip, Dp}
 use Rattle.tape_types.specs.declared.cartridges.Place.{Place}
 use Rattle.tape_types.specs.declared.cartridges.Limits.{Limits}
 use Rattle.tape_types.specs.Cartridges.{capacity}
-use Rattle.index_construct.specs.Blocks.{block_at}
+use Rattle.tape_layout.specs.IndexConstruct.Blocks.{block_at}
 use Rattle.tape_layout.specs.declared.ops.Op.{Op}
 use Rattle.tape_layout.specs.declared.ops.Op.TheVariants.{Put, Mark, Flush}
 use Rattle.tape_layout.specs.declared.standing.Ends.{Ends}

@@ -3,9 +3,9 @@ ghost use Rattle.std.specs.Int.{div_ceil};
 ghost use Rattle.tape_layout.specs.Ops.{construct, place_of, puts};
 ghost use Rattle.tape_layout.specs.Plans.{drafted, more};
 
+use crate::index_construct::{blocks, piece};
 use crate::ops::Op;
 use crate::standing::{Ends, Standing};
-use index_construct::{blocks, piece};
 use std::alloc::Global;
 use std::collections::VecDeque;
 use std::marker::Model;

@@ -17,9 +17,9 @@ ghost use Rattle.tape_layout.specs.Plans.{AreStanding, CanAdmit, CanBe, Lead, pl
 
 use crate::drafts::Draft;
 use crate::errors::AdmitErr;
+use crate::index_construct::blocks;
 use crate::ops::Op;
 use crate::standing::{Ends, Standing};
-use index_construct::blocks;
 use std::alloc::Global;
 use std::collections::VecDeque;
 use std::marker::Model;

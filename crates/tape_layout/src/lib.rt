@@ -3,8 +3,10 @@
 
 mod drafts;
 mod errors;
+pub mod index_construct;
 mod layouts;
 mod ops;
+pub mod placement;
 mod standing;
 
 pub use errors::AdmitErr;

@@ -7,3 +7,4 @@ pub mod Places
 pub mod ShownLemmas
 pub mod TextLemmas
 pub mod UuidLemmas
+pub mod NodeKeys

@@ -6,3 +6,4 @@ pub mod Names
 pub mod TimeParts
 pub mod Times
 pub mod Uuids
+pub mod NodeKeys

@@ -7,6 +7,7 @@ mod laws;
 mod lists;
 mod moments;
 mod names;
+pub mod node_keys;
 mod texts;
 mod times;
 mod uuids;

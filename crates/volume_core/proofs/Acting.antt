@@ -12,25 +12,25 @@ use Rattle.session_script.specs.declared.logs.Event.TheVariants as events
 use Rattle.session_script.specs.declared.logs.Reply.{Reply}
 use Rattle.head_core.specs.declared.work.StepDone.{StepDone}
 use Rattle.head_core.specs.declared.work.StepDone.TheVariants as ends
-use Rattle.event_laws.specs.Trail.{after_all}
-use Rattle.event_laws.specs.Waiting.{State, ops}
-use Rattle.serving_promise.specs.Marks.{phase, waits}
-use Rattle.serving_promise.specs.Served.{Fixed, View, headed}
-use Rattle.serving_promise.specs.Steps.{is_step}
-use Rattle.serving_promise.specs.Submits.{Adds, acks_for}
-use Rattle.serving_promise.specs.declared.answers.Drained.{Drained}
-use Rattle.serving_promise.specs.declared.answers.Drained.TheVariants as the_drained
-use Rattle.serving_promise.specs.declared.answers.Turn.{Turn}
-use Rattle.order_laws.specs.Kept.{seen}
-use Rattle.crash_laws.specs.Changes.{IsWell}
+use Rattle.head_queue.specs.EventLaws.Trail.{after_all}
+use Rattle.head_queue.specs.EventLaws.Waiting.{State, ops}
+use Rattle.promises.specs.ServingPromise.Marks.{phase, waits}
+use Rattle.promises.specs.ServingPromise.Served.{Fixed, View, headed}
+use Rattle.promises.specs.ServingPromise.Steps.{is_step}
+use Rattle.promises.specs.ServingPromise.Submits.{Adds, acks_for}
+use Rattle.promises.specs.declared.serving_promise.answers.Drained.{Drained}
+use Rattle.promises.specs.declared.serving_promise.answers.Drained.TheVariants as the_drained
+use Rattle.promises.specs.declared.serving_promise.answers.Turn.{Turn}
+use Rattle.promises.specs.OrderLaws.Kept.{seen}
+use Rattle.promises.specs.CrashLaws.Changes.{IsWell}
 use Rattle.event_journal.specs.Trails.{Journaled}
-use Rattle.log_laws.specs.Acts as acts
-use Rattle.log_laws.specs.Acts.{AreActs, Moves}
-use Rattle.log_laws.proofs.Gone.{acks_append}
-use Rattle.state_laws.specs.Parts.{Parts, view_of}
-use Rattle.state_laws.specs.Stepping.{Steps, does, fails, misses, reads, synced_events}
-use Rattle.call_laws.specs.Draining.{DrainsTo, RestsNow, TakesFault, fault, room, then_fault, then_more, then_room}
-use Rattle.call_laws.specs.Handing.{HandsOut, StepsOn, TurnsTo, at_once, more, then_ready}
+use Rattle.run_laws.specs.LogLaws.Acts as acts
+use Rattle.run_laws.specs.LogLaws.Acts.{AreActs, Moves}
+use Rattle.run_laws.proofs.LogLaws.Gone.{acks_append}
+use Rattle.volume_state.specs.StateLaws.Parts.{Parts, view_of}
+use Rattle.volume_state.specs.StateLaws.Stepping.{Steps, does, fails, misses, reads, synced_events}
+use Rattle.volume_state.specs.CallLaws.Draining.{DrainsTo, RestsNow, TakesFault, fault, room, then_fault, then_more, then_room}
+use Rattle.volume_state.specs.CallLaws.Handing.{HandsOut, StepsOn, TurnsTo, at_once, more, then_ready}
 use Rattle.volume_core.specs.Serving.{IsServing, next_moment}
 use Rattle.volume_core.specs.Turns.{DrainsAt, Told, told}
 use Rattle.volume_core.proofs.Ready.{shown}

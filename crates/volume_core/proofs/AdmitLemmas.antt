@@ -21,14 +21,14 @@ use Rattle.space_laws.specs.Space.{ops_of}
 use Rattle.space_laws.specs.Standing.{Given, Standing, rules}
 use Rattle.held_volume.specs.Closed.{IsDpChange, IsDpDocument, IsDpDone, IsIpDocument, IsIpEnd, IsIpFull, closed_dp}
 use Rattle.held_volume.specs.Stocks.{IsStock, Stocked}
-use Rattle.serving_promise.specs.Served.{Fixed, given}
-use Rattle.order_laws.specs.Kept.{seen}
-use Rattle.reply_laws.specs.Sides.{on_here, standing_here}
-use Rattle.plan_laws.specs.Planned.{IsOnWay, ends_in, tape_on, with_ops}
-use Rattle.plan_laws.proofs.Admits.{ends_go_on}
-use Rattle.plan_laws.proofs.Ways.{ways_go_on}
-use Rattle.state_laws.specs.Parts.{Parts, view_of}
-use Rattle.call_laws.specs.Running.{IsRunning}
+use Rattle.promises.specs.ServingPromise.Served.{Fixed, given}
+use Rattle.promises.specs.OrderLaws.Kept.{seen}
+use Rattle.promises.specs.ReplyLaws.Sides.{on_here, standing_here}
+use Rattle.volume_state.specs.PlanLaws.Planned.{IsOnWay, ends_in, tape_on, with_ops}
+use Rattle.volume_state.proofs.PlanLaws.Admits.{ends_go_on}
+use Rattle.volume_state.proofs.PlanLaws.Ways.{ways_go_on}
+use Rattle.volume_state.specs.StateLaws.Parts.{Parts, view_of}
+use Rattle.volume_state.specs.CallLaws.Running.{IsRunning}
 use Rattle.volume_core.specs.Doing.{CanDoAll}
 use Rattle.volume_core.specs.Finish.{AdmitsOnDp, AdmitsOnIp, IsAdmittedOnIp, IsShortOnDp, IsShortOnIp}
 

@@ -27,27 +27,27 @@ use Rattle.space_laws.specs.Space as space
 use Rattle.space_laws.specs.Space.{Ask, Rules, Space, index, index_need, is_over, nothing, ops_of, plan_of}
 use Rattle.space_laws.specs.Standing.{Given, Standing, is_on, rules, sync_text}
 use Rattle.space_laws.proofs.TreeLaw.{are_replays}
-use Rattle.image_laws.specs.Made.{cartridge_of, part_items}
-use Rattle.image_laws.specs.Plans.{IsCloseDue}
-use Rattle.serving_promise.specs.Served.{Fixed, View}
-use Rattle.crash_laws.specs.Laws.{IsNextDue}
-use Rattle.crash_laws.specs.Safe.{Planned, given_by, standing_now, trees_of, volume_of}
+use Rattle.promises.specs.ImageLaws.Made.{cartridge_of, part_items}
+use Rattle.promises.specs.ImageLaws.Plans.{IsCloseDue}
+use Rattle.promises.specs.ServingPromise.Served.{Fixed, View}
+use Rattle.promises.specs.CrashLaws.Laws.{IsNextDue}
+use Rattle.promises.specs.CrashLaws.Safe.{Planned, given_by, standing_now, trees_of, volume_of}
 use Rattle.held_volume.specs.Closed.{closed_dp}
 use Rattle.held_volume.specs.Stocks.{IsStock, Stocked, ends_of, frame_of, stocked}
 use Rattle.held_volume.specs.Synced.{CanTell}
-use Rattle.due_laws.specs.Behind.{BeginsBehindLabels}
-use Rattle.due_laws.proofs.Due.{index_due}
-use Rattle.due_laws.proofs.Tapes.{go_by_the_tape}
-use Rattle.due_laws.proofs.Texts.{are_short}
-use Rattle.plan_laws.specs.Planned.{Items, ends_in, tape_on, with_ops}
-use Rattle.plan_laws.proofs.Admits.{ends_go_on}
-use Rattle.plan_laws.proofs.Agrees.{plans_agree}
-use Rattle.plan_laws.proofs.Stays.{further, tapes_stay}
-use Rattle.state_laws.specs.Parts.{Parts, view_of}
-use Rattle.state_laws.specs.Tied.{IsTied}
-use Rattle.closing_laws.specs.Closing.{CanTellClose, IsNear}
-use Rattle.closing_laws.proofs.Nears.{closes_can_tell}
-use Rattle.closing_laws.proofs.Tells.{close_due}
+use Rattle.volume_state.specs.DueLaws.Behind.{BeginsBehindLabels}
+use Rattle.volume_state.proofs.DueLaws.Due.{index_due}
+use Rattle.volume_state.proofs.DueLaws.Tapes.{go_by_the_tape}
+use Rattle.volume_state.proofs.DueLaws.Texts.{are_short}
+use Rattle.volume_state.specs.PlanLaws.Planned.{Items, ends_in, tape_on, with_ops}
+use Rattle.volume_state.proofs.PlanLaws.Admits.{ends_go_on}
+use Rattle.volume_state.proofs.PlanLaws.Agrees.{plans_agree}
+use Rattle.volume_state.proofs.PlanLaws.Stays.{further, tapes_stay}
+use Rattle.volume_state.specs.StateLaws.Parts.{Parts, view_of}
+use Rattle.volume_state.specs.StateLaws.Tied.{IsTied}
+use Rattle.volume_state.specs.ClosingLaws.Closing.{CanTellClose, IsNear}
+use Rattle.volume_state.proofs.ClosingLaws.Nears.{closes_can_tell}
+use Rattle.volume_state.proofs.ClosingLaws.Tells.{close_due}
 
 -- ---- an index that fits
 

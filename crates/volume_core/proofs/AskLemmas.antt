@@ -9,21 +9,21 @@ use Rattle.plain_tree.specs.declared.calls.Call.{Call}
 use Rattle.session_script.specs.Grammar.{calls_of}
 use Rattle.session_script.specs.Sessions.{greatest_session}
 use Rattle.session_script.specs.declared.logs.Event.TheVariants.{Drains}
-use Rattle.event_laws.specs.Trail.{allows, drains_now}
-use Rattle.event_laws.specs.Waiting.{is_due, ops}
-use Rattle.serving_promise.specs.Marks.{draining, idle, places_of}
-use Rattle.serving_promise.specs.Served.{View, given, headed}
-use Rattle.order_laws.specs.Kept.{seen}
-use Rattle.order_laws.specs.Laws.{IsInOrder}
-use Rattle.order_laws.proofs.Placing.{as_many_places}
-use Rattle.order_laws.proofs.Views.{session_is}
-use Rattle.reply_laws.specs.Sides.{on_here, standing_here}
+use Rattle.head_queue.specs.EventLaws.Trail.{allows, drains_now}
+use Rattle.head_queue.specs.EventLaws.Waiting.{is_due, ops}
+use Rattle.promises.specs.ServingPromise.Marks.{draining, idle, places_of}
+use Rattle.promises.specs.ServingPromise.Served.{View, given, headed}
+use Rattle.promises.specs.OrderLaws.Kept.{seen}
+use Rattle.promises.specs.OrderLaws.Laws.{IsInOrder}
+use Rattle.promises.proofs.OrderLaws.Placing.{as_many_places}
+use Rattle.promises.proofs.OrderLaws.Views.{session_is}
+use Rattle.promises.specs.ReplyLaws.Sides.{on_here, standing_here}
 use Rattle.event_journal.specs.Trails.{state}
-use Rattle.state_laws.specs.Parts.{Parts, view_of}
-use Rattle.volume_steps.specs.Asking.{CanAsk, CanPlace, Stands}
-use Rattle.volume_steps.specs.Wanted.{CanWantBlocks}
-use Rattle.volume_steps.proofs.QueueLemmas.{none_is_due}
-use Rattle.volume_steps.proofs.TiedLemmas.{can_want}
+use Rattle.volume_state.specs.StateLaws.Parts.{Parts, view_of}
+use Rattle.volume_core.specs.VolumeSteps.Asking.{CanAsk, CanPlace, Stands}
+use Rattle.volume_core.specs.VolumeSteps.Wanted.{CanWantBlocks}
+use Rattle.volume_core.proofs.VolumeSteps.QueueLemmas.{none_is_due}
+use Rattle.volume_core.proofs.VolumeSteps.TiedLemmas.{can_want}
 use Rattle.volume_core.specs.Turns.{RunsFor}
 use Rattle.volume_core.proofs.Counting.{calls_left}
 

@@ -14,18 +14,18 @@ use Rattle.cartridge_meaning.specs.declared.mounted.Mounted.{Mounted}
 use Rattle.file_tree.specs.Mounts.{IsTreeOf}
 use Rattle.file_tree.specs.Tree.{FileTree, plain_of}
 use Rattle.space_laws.specs.Standing.{Given, first_standing}
-use Rattle.serving_promise.specs.Ends.{Starts}
-use Rattle.serving_promise.specs.Meanings.{cartridges}
-use Rattle.serving_promise.specs.Served.{Fixed, IsServed}
-use Rattle.order_laws.specs.Kept.{seen}
+use Rattle.promises.specs.ServingPromise.Ends.{Starts}
+use Rattle.promises.specs.ServingPromise.Meanings.{cartridges}
+use Rattle.promises.specs.ServingPromise.Served.{Fixed, IsServed}
+use Rattle.promises.specs.OrderLaws.Kept.{seen}
 use Rattle.held_volume.specs.Mounted.{CanStart, StartsFrom, letters_of}
 use Rattle.held_volume.specs.Stocks.{IsStock, Stocked}
 use Rattle.held_volume.proofs.MountLaws.{mounts_can_start}
-use Rattle.crash_laws.specs.May.{MayStart}
-use Rattle.state_laws.specs.Parts.{Parts, view_of}
-use Rattle.call_laws.specs.StartLaws.{IsFresh, first_tape}
-use Rattle.call_laws.proofs.Begun.{volumes_run}
-use Rattle.call_laws.proofs.Promised.{running_is_promised}
+use Rattle.promises.specs.CrashLaws.May.{MayStart}
+use Rattle.volume_state.specs.StateLaws.Parts.{Parts, view_of}
+use Rattle.volume_state.specs.CallLaws.StartLaws.{IsFresh, first_tape}
+use Rattle.volume_state.proofs.CallLaws.Begun.{volumes_run}
+use Rattle.volume_state.proofs.CallLaws.Promised.{running_is_promised}
 use Rattle.volume_core.specs.Beginning.{BeginsWith}
 use Rattle.volume_core.specs.Serving.{IsServing, fixed_of, next_moment}
 

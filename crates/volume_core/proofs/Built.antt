@@ -17,7 +17,7 @@ use Rattle.file_tree.specs.Mounts.IsPathOf.{below}
 use Rattle.file_tree.specs.Tree.{FileTree, Nodes}
 use Rattle.file_tree.specs.declared.nodes.Node.{Node}
 use Rattle.file_tree.proofs.MountLemmas.{at_path, ends, first_built, one_node}
-use Rattle.due_laws.proofs.Trees.{is_node, node_of, some_at}
+use Rattle.volume_state.proofs.DueLaws.Trees.{is_node, node_of, some_at}
 use Rattle.file_tree.proofs.PathLemmas.{get_here, get_other, is_or_not, some_same}
 
 -- ---- one node more

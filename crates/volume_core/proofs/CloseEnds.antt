@@ -12,22 +12,22 @@ use Rattle.tape_layout.specs.declared.ops.Op.{Op}
 use Rattle.space_laws.specs.Standing.{Given, Standing}
 use Rattle.space_laws.proofs.TreeLaw.{are_replays}
 use Rattle.cartridge_meaning.specs.Carried.{carried}
-use Rattle.serving_promise.specs.Ends.{LeavesTree, IsDoneClose, IsEnd, TellsNodes}
-use Rattle.serving_promise.specs.Meanings.{cartridges}
-use Rattle.serving_promise.specs.Served.{Fixed, View, tree_after}
-use Rattle.serving_promise.specs.declared.answers.CloseEnd.{CloseEnd}
-use Rattle.serving_promise.specs.declared.answers.CloseEnd.TheVariants as outcomes
-use Rattle.order_laws.specs.Kept.{seen}
-use Rattle.crash_laws.specs.Laws.{CanServe}
-use Rattle.promise_laws.specs.Kept.{CanRead}
+use Rattle.promises.specs.ServingPromise.Ends.{LeavesTree, IsDoneClose, IsEnd, TellsNodes}
+use Rattle.promises.specs.ServingPromise.Meanings.{cartridges}
+use Rattle.promises.specs.ServingPromise.Served.{Fixed, View, tree_after}
+use Rattle.promises.specs.declared.serving_promise.answers.CloseEnd.{CloseEnd}
+use Rattle.promises.specs.declared.serving_promise.answers.CloseEnd.TheVariants as outcomes
+use Rattle.promises.specs.OrderLaws.Kept.{seen}
+use Rattle.promises.specs.CrashLaws.Laws.{CanServe}
+use Rattle.promises.specs.PromiseLaws.Kept.{CanRead}
 use Rattle.held_volume.specs.Stocks.{Stocked}
-use Rattle.plan_laws.specs.Planned.{Items, tape_on}
-use Rattle.state_laws.specs.Parts.{Parts, view_of}
+use Rattle.volume_state.specs.PlanLaws.Planned.{Items, tape_on}
+use Rattle.volume_state.specs.StateLaws.Parts.{Parts, view_of}
 use Rattle.volume_core.specs.Commands.{AreOpsDone, EndsWith}
 use Rattle.volume_core.specs.Finish as finish
 use Rattle.volume_core.specs.Finish.{AdmitsOnDp, AdmitsOnIp, Finishes, IsAdmittedOnIp, IsShortOnIp, close_end}
 use Rattle.volume_core.specs.Finish.{lasts_of, short_end}
-use Rattle.closing_laws.specs.Owned.{LeavesOwn}
+use Rattle.volume_state.specs.ClosingLaws.Owned.{LeavesOwn}
 use Rattle.volume_core.specs.Promised.{CanClose, ClosesEnd, EndsAsPromised, LeavesOwnIndexes}
 use Rattle.volume_core.proofs.Admitted as admitted
 use Rattle.volume_core.proofs.Alike.{known_alike}

@@ -6,16 +6,16 @@ use Rattle.std.proofs.lemmas.Bool.{eq-eqb, or_right}
 use Rattle.std.proofs.lemmas.Option.{slice_get_cases, slice_get_within}
 use Rattle.tape_types.specs.declared.moments.Moment.{Moment}
 use Rattle.tape_drive.specs.declared.drive.Drive.{Ghosts}
-use Rattle.event_laws.specs.Trail.{after_all}
-use Rattle.event_laws.specs.Waiting.{Waiter}
-use Rattle.serving_promise.specs.Served.{Fixed, View, is_waiting}
-use Rattle.order_laws.proofs.PhaseLaw.{nothing_waits}
-use Rattle.crash_laws.specs.Laws.{CanServe}
-use Rattle.crash_laws.specs.Safe.{wait_of, waits_after}
-use Rattle.promise_laws.specs.Kept.{CanRead}
-use Rattle.state_laws.specs.Parts.{Parts, view_of}
-use Rattle.closing_laws.specs.Closing.{IsNear}
-use Rattle.closing_laws.proofs.Nears.{closes_can_tell}
+use Rattle.head_queue.specs.EventLaws.Trail.{after_all}
+use Rattle.head_queue.specs.EventLaws.Waiting.{Waiter}
+use Rattle.promises.specs.ServingPromise.Served.{Fixed, View, is_waiting}
+use Rattle.promises.proofs.OrderLaws.PhaseLaw.{nothing_waits}
+use Rattle.promises.specs.CrashLaws.Laws.{CanServe}
+use Rattle.promises.specs.CrashLaws.Safe.{wait_of, waits_after}
+use Rattle.promises.specs.PromiseLaws.Kept.{CanRead}
+use Rattle.volume_state.specs.StateLaws.Parts.{Parts, view_of}
+use Rattle.volume_state.specs.ClosingLaws.Closing.{IsNear}
+use Rattle.volume_state.proofs.ClosingLaws.Nears.{closes_can_tell}
 use Rattle.volume_core.specs.Promised.{CanClose}
 use Rattle.volume_core.proofs.Admitted as admitted
 

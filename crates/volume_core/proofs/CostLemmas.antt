@@ -14,10 +14,10 @@ use Rattle.tape_types.specs.declared.cartridges.Place.{Place}
 use Rattle.tape_types.specs.declared.cartridges.Twin.{Twin}
 use Rattle.session_script.specs.declared.logs.Event.{Event}
 use Rattle.session_script.specs.declared.logs.Event.TheVariants.{Wants, Queues, Syncs, Synced, Drains, Rests, Served, Worked}
-use Rattle.event_laws.specs.Trail.{EachIsAllowed, IsTrail, after, after_all, after_op, allows, behind, distance, step_to, steps, takes_op, travel, without_first_op, without_first_waiter}
-use Rattle.event_laws.specs.Waiting.{Op, State, Waiter, first_of, is_calm, ops, put_at, same_part, same_place, start, waiting_op, with_flushes}
-use Rattle.event_laws.proofs.TrailLaw.{first_of as left_of, trails_allow_each}
-use Rattle.serving_promise.specs.Ends.{bounded}
+use Rattle.head_queue.specs.EventLaws.Trail.{EachIsAllowed, IsTrail, after, after_all, after_op, allows, behind, distance, step_to, steps, takes_op, travel, without_first_op, without_first_waiter}
+use Rattle.head_queue.specs.EventLaws.Waiting.{Op, State, Waiter, first_of, is_calm, ops, put_at, same_part, same_place, start, waiting_op, with_flushes}
+use Rattle.head_queue.proofs.EventLaws.TrailLaw.{first_of as left_of, trails_allow_each}
+use Rattle.promises.specs.ServingPromise.Ends.{bounded}
 use Rattle.volume_core.specs.declared.costs.Walk.{Walk}
 use Rattle.volume_core.specs.Costs.{AreCosts, Goes, IsWalked, Standing, apart, is_last, is_queued, queued_by, stand, standing_of, to_op, with_event}
 

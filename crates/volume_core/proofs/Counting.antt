@@ -7,7 +7,7 @@ use Rattle.plain_tree.specs.History.{numbers_of}
 use Rattle.plain_tree.specs.declared.calls.Placed.{Placed}
 use Rattle.session_script.specs.Grammar.{calls_of}
 use Rattle.session_script.specs.declared.scripts.ScriptLine.{ScriptLine}
-use Rattle.serving_promise.specs.Served.{IsPlacedSoFar}
+use Rattle.promises.specs.ServingPromise.Served.{IsPlacedSoFar}
 
 -- ---- how many elements have a number
 

@@ -11,11 +11,11 @@ use Rattle.tape_drive.specs.declared.drive.Drive.{Ghosts}
 use Rattle.index_model.specs.declared.indexes.Index.{Index}
 use Rattle.ltfs_label.specs.declared.Label.{Label}
 use Rattle.tape_layout.specs.declared.ops.Op.{Op}
-use Rattle.image_laws.specs.Left.{StandsClosed}
-use Rattle.image_laws.specs.Fine.{IsSame}
-use Rattle.image_laws.specs.Made.{Job, Made, after, least, part_items}
-use Rattle.image_laws.proofs.Stated.{kept_gives}
-use Rattle.image_laws.specs.Plans.{IsCloseDue, close_jobs, index_jobs}
+use Rattle.promises.specs.ImageLaws.Left.{StandsClosed}
+use Rattle.promises.specs.ImageLaws.Fine.{IsSame}
+use Rattle.promises.specs.ImageLaws.Made.{Job, Made, after, least, part_items}
+use Rattle.promises.proofs.ImageLaws.Stated.{kept_gives}
+use Rattle.promises.specs.ImageLaws.Plans.{IsCloseDue, close_jobs, index_jobs}
 use Rattle.space_laws.specs.Closing.{close_limit, close_need, close_text, is_dp_due, is_ip_due}
 use Rattle.space_laws.specs.Space as space
 use Rattle.space_laws.specs.Space.{Space, first_space, index, is_over, ops_of}
@@ -23,23 +23,23 @@ use Rattle.space_laws.specs.Standing.{Given, Standing, rules, sync_text}
 use Rattle.plain_tree.specs.Tree.{Tree}
 use Rattle.cartridge_meaning.specs.Carried.{carried}
 use Rattle.cartridge_meaning.specs.Meaning.{Stands}
-use Rattle.serving_promise.specs.Ends.{LeavesTree}
-use Rattle.serving_promise.specs.Meanings.{cartridges}
-use Rattle.serving_promise.specs.Served.{Fixed, View, tree_after}
-use Rattle.order_laws.specs.Kept.{seen}
+use Rattle.promises.specs.ServingPromise.Ends.{LeavesTree}
+use Rattle.promises.specs.ServingPromise.Meanings.{cartridges}
+use Rattle.promises.specs.ServingPromise.Served.{Fixed, View, tree_after}
+use Rattle.promises.specs.OrderLaws.Kept.{seen}
 use Rattle.held_volume.specs.Stocks.{Stocked}
-use Rattle.crash_laws.specs.Laws.{CanServe}
-use Rattle.crash_laws.specs.Safe.{Planned, trees_of, volume_of, with_jobs}
-use Rattle.crash_laws.proofs.Admits.{index_ops}
-use Rattle.promise_laws.specs.Kept.{CanRead}
-use Rattle.plan_laws.specs.Planned.{Items, with_ops}
-use Rattle.plan_laws.proofs.Agrees.{plans_agree}
-use Rattle.state_laws.specs.Parts.{Parts, view_of}
-use Rattle.closing_laws.specs.Closing.{HasSpace, IsAtRest, IsClosing, state_at}
-use Rattle.closing_laws.specs.Laws.{close_ops}
-use Rattle.closing_laws.proofs.Aheads.{none_is_ahead}
-use Rattle.closing_laws.proofs.Keeps.{closes_are_safe}
-use Rattle.closing_laws.proofs.Leaves.{closed_stand, no_jobs}
+use Rattle.promises.specs.CrashLaws.Laws.{CanServe}
+use Rattle.promises.specs.CrashLaws.Safe.{Planned, trees_of, volume_of, with_jobs}
+use Rattle.promises.proofs.CrashLaws.Admits.{index_ops}
+use Rattle.promises.specs.PromiseLaws.Kept.{CanRead}
+use Rattle.volume_state.specs.PlanLaws.Planned.{Items, with_ops}
+use Rattle.volume_state.proofs.PlanLaws.Agrees.{plans_agree}
+use Rattle.volume_state.specs.StateLaws.Parts.{Parts, view_of}
+use Rattle.volume_state.specs.ClosingLaws.Closing.{HasSpace, IsAtRest, IsClosing, state_at}
+use Rattle.volume_state.specs.ClosingLaws.Laws.{close_ops}
+use Rattle.volume_state.proofs.ClosingLaws.Aheads.{none_is_ahead}
+use Rattle.volume_state.proofs.ClosingLaws.Keeps.{closes_are_safe}
+use Rattle.volume_state.proofs.ClosingLaws.Leaves.{closed_stand, no_jobs}
 use Rattle.volume_core.specs.Commands.{AreOpsDone, EndsWith}
 use Rattle.volume_core.specs.Finish.{AdmitsOnDp, IsAdmittedOnIp, lasts_of}
 use Rattle.volume_core.specs.May.{AreReady, MayTell}

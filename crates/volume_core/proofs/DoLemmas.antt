@@ -13,10 +13,10 @@ use Rattle.tape_layout.specs.declared.ops.Op.TheVariants.{Flush, Mark, Put}
 use Rattle.head_core.specs.Steps.{CanDo, IsOpStep}
 use Rattle.head_core.specs.declared.work.StepDone.{StepDone}
 use Rattle.head_core.specs.declared.work.StepDone.TheVariants as outcome
-use Rattle.crash_laws.specs.Changes.{IsWell}
-use Rattle.plan_laws.specs.Planned.{IsOnWay}
-use Rattle.plan_laws.proofs.Tells.{tapes_tell}
-use Rattle.plan_laws.proofs.Ways.{ways_go_on}
+use Rattle.promises.specs.CrashLaws.Changes.{IsWell}
+use Rattle.volume_state.specs.PlanLaws.Planned.{IsOnWay}
+use Rattle.volume_state.proofs.PlanLaws.Tells.{tapes_tell}
+use Rattle.volume_state.proofs.PlanLaws.Ways.{ways_go_on}
 use Rattle.volume_core.specs.Commands.{DoesOps, FailsOp}
 use Rattle.volume_core.specs.Doing.{CanDoAll, IsOneDone}
 

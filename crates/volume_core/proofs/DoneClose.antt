@@ -11,11 +11,11 @@ use Rattle.cartridge_meaning.specs.Meaning.{AreAlike, HasOneIndex, IsConsistent,
 use Rattle.cartridge_meaning.specs.Notes.{AreNoted}
 use Rattle.cartridge_meaning.specs.declared.labels.Labels.{Labels}
 use Rattle.cartridge_meaning.specs.declared.mounted.Mounted.{Mounted}
-use Rattle.serving_promise.specs.Crash.{IsSound}
-use Rattle.serving_promise.specs.Ends.{IsDoneClose, IsLeftApart}
-use Rattle.serving_promise.specs.Meanings.{cartridges}
-use Rattle.order_laws.specs.Kept.{seen}
-use Rattle.closing_laws.specs.Closing.{IsAtRest}
+use Rattle.promises.specs.ServingPromise.Crash.{IsSound}
+use Rattle.promises.specs.ServingPromise.Ends.{IsDoneClose, IsLeftApart}
+use Rattle.promises.specs.ServingPromise.Meanings.{cartridges}
+use Rattle.promises.specs.OrderLaws.Kept.{seen}
+use Rattle.volume_state.specs.ClosingLaws.Closing.{IsAtRest}
 use Rattle.volume_core.proofs.DoneNotes.{honest_note}
 
 -- The drive tells this cartridge, at rest: it stands for the tree, is consistent, and both notes tell of it.

@@ -14,21 +14,21 @@ use Rattle.cartridge_meaning.specs.Carried.{Carried, carried}
 use Rattle.cartridge_meaning.specs.Meaning.{HasOneIndex}
 use Rattle.cartridge_meaning.specs.Pointers.{indexes_of, last_block}
 use Rattle.cartridge_meaning.specs.declared.labels.Labels.{Labels}
-use Rattle.image_laws.specs.Made.{part_items}
+use Rattle.promises.specs.ImageLaws.Made.{part_items}
 use Rattle.space_laws.specs.Closing.{close_ask, is_dp_due}
 use Rattle.space_laws.specs.Space as space
 use Rattle.space_laws.specs.Space.{Space, index, is_over, nothing, ops_of}
 use Rattle.space_laws.specs.Standing.{Given, Standing, rules, sync_text}
-use Rattle.serving_promise.specs.Served.{Fixed, View, tree_after}
-use Rattle.crash_laws.specs.Safe.{Planned, trees_of, volume_of}
-use Rattle.promise_laws.specs.Kept.{CanRead}
-use Rattle.plan_laws.specs.Planned.{Items, with_ops}
-use Rattle.state_laws.specs.Parts.{Parts, view_of}
-use Rattle.closing_laws.specs.Indexed.{EndsWithTree, IsIndexed, IsOpen, cartridge_on}
-use Rattle.closing_laws.specs.Owned.{HasOwn, all_places}
-use Rattle.closing_laws.proofs.OwnLaw.{closing_own}
-use Rattle.closing_laws.proofs.Newest.{IsTold, ends_with_told, last_new, some_new, told_by}
-use Rattle.closing_laws.proofs.Opened.{indexed_ip, indexed_open}
+use Rattle.promises.specs.ServingPromise.Served.{Fixed, View, tree_after}
+use Rattle.promises.specs.CrashLaws.Safe.{Planned, trees_of, volume_of}
+use Rattle.promises.specs.PromiseLaws.Kept.{CanRead}
+use Rattle.volume_state.specs.PlanLaws.Planned.{Items, with_ops}
+use Rattle.volume_state.specs.StateLaws.Parts.{Parts, view_of}
+use Rattle.volume_state.specs.ClosingLaws.Indexed.{EndsWithTree, IsIndexed, IsOpen, cartridge_on}
+use Rattle.volume_state.specs.ClosingLaws.Owned.{HasOwn, all_places}
+use Rattle.volume_state.proofs.ClosingLaws.OwnLaw.{closing_own}
+use Rattle.volume_state.proofs.ClosingLaws.Newest.{IsTold, ends_with_told, last_new, some_new, told_by}
+use Rattle.volume_state.proofs.ClosingLaws.Opened.{indexed_ip, indexed_open}
 use Rattle.volume_core.specs.Promised.{CanClose}
 use Rattle.volume_core.proofs.Admitted as admitted
 use Rattle.volume_core.proofs.CloseGiven.{near}

@@ -7,7 +7,7 @@ use Rattle.tape_types.specs.declared.cartridges.Part.TheVariants.{Ip, Dp}
 use Rattle.tape_types.specs.declared.moments.Moment.{Moment}
 use Rattle.tape_drive.specs.declared.drive.Drive.{Ghosts}
 use Rattle.plain_tree.specs.Tree.{Tree}
-use Rattle.index_construct.specs.Blocks.{blocks_of}
+use Rattle.tape_layout.specs.IndexConstruct.Blocks.{blocks_of}
 use Rattle.index_model.specs.declared.indexes.Index.{Index}
 use Rattle.ltfs_label.specs.declared.Label.{Label}
 use Rattle.content_laws.specs.Readings.{Construct, first_of}
@@ -16,21 +16,21 @@ use Rattle.cartridge_meaning.specs.Carried.{Carried, carried}
 use Rattle.cartridge_meaning.specs.Meaning.{HasOneIndex}
 use Rattle.cartridge_meaning.specs.Pointers.{indexes_of, last_block}
 use Rattle.cartridge_meaning.specs.declared.labels.Labels.{Labels}
-use Rattle.image_laws.specs.Plans.{IsCloseDue}
-use Rattle.image_laws.proofs.Indexes.{construct_is, some_blocks, with_construct}
+use Rattle.promises.specs.ImageLaws.Plans.{IsCloseDue}
+use Rattle.promises.proofs.ImageLaws.Indexes.{construct_is, some_blocks, with_construct}
 use Rattle.space_laws.specs.Closing.{close_limit, close_need, close_text}
 use Rattle.space_laws.specs.Standing.{Given, Standing}
-use Rattle.serving_promise.specs.Crash.{IsSound}
-use Rattle.serving_promise.specs.Meanings.{cartridges}
-use Rattle.serving_promise.specs.Served.{Fixed, View, tree_after}
+use Rattle.promises.specs.ServingPromise.Crash.{IsSound}
+use Rattle.promises.specs.ServingPromise.Meanings.{cartridges}
+use Rattle.promises.specs.ServingPromise.Served.{Fixed, View, tree_after}
 use Rattle.held_volume.specs.Stocks.{Stocked}
-use Rattle.crash_laws.specs.Safe.{Planned, trees_of, volume_of}
-use Rattle.promise_laws.specs.Kept.{CanRead}
-use Rattle.plan_laws.specs.Planned.{Items}
-use Rattle.state_laws.specs.Parts.{Parts, view_of}
-use Rattle.closing_laws.specs.Indexed.{EndsWithTree}
-use Rattle.closing_laws.specs.Owned.{LeavesOwn, all_places}
-use Rattle.closing_laws.proofs.OwnLaw.{closed_on}
+use Rattle.promises.specs.CrashLaws.Safe.{Planned, trees_of, volume_of}
+use Rattle.promises.specs.PromiseLaws.Kept.{CanRead}
+use Rattle.volume_state.specs.PlanLaws.Planned.{Items}
+use Rattle.volume_state.specs.StateLaws.Parts.{Parts, view_of}
+use Rattle.volume_state.specs.ClosingLaws.Indexed.{EndsWithTree}
+use Rattle.volume_state.specs.ClosingLaws.Owned.{LeavesOwn, all_places}
+use Rattle.volume_state.proofs.ClosingLaws.OwnLaw.{closed_on}
 use Rattle.volume_core.specs.Finish.{AdmitsOnDp, lasts_of}
 use Rattle.volume_core.specs.Promised.{CanClose}
 use Rattle.volume_core.proofs.Admitted as admitted

@@ -15,7 +15,7 @@ use Rattle.ltfs_label.specs.declared.Label.{Label}
 use Rattle.content_laws.specs.Readings.{HasForm}
 use Rattle.tape_layout.specs.declared.ops.Op.{Op}
 use Rattle.cartridge_meaning.specs.Notes.{AreNoted, IsHonestNote, IsNoted}
-use Rattle.closing_laws.specs.Closing.{IsAtRest}
+use Rattle.volume_state.specs.ClosingLaws.Closing.{IsAtRest}
 use Rattle.volume_core.specs.Commands as closing
 use Rattle.volume_core.specs.Commands.{DoesOps, EndsWith, IsDpNoteWritten, IsNoteWritten}
 use Rattle.volume_core.specs.Commands.{IsVcrRead, Lasts, WritesNotes, WritesNotesIf, values_of}

@@ -23,20 +23,20 @@ use Rattle.cartridge_meaning.proofs.OneMount.{done_consistent}
 use Rattle.cartridge_meaning.proofs.OneWay.{last_dp_once, same_tree}
 use Rattle.space_laws.specs.Space.{Space}
 use Rattle.space_laws.specs.Standing.{Standing}
-use Rattle.serving_promise.specs.Crash.{IsSound}
-use Rattle.serving_promise.specs.Ends.{IsLeftApart}
-use Rattle.serving_promise.specs.Meanings.{cartridges}
-use Rattle.serving_promise.specs.Served.{Fixed, View, tree_after}
+use Rattle.promises.specs.ServingPromise.Crash.{IsSound}
+use Rattle.promises.specs.ServingPromise.Ends.{IsLeftApart}
+use Rattle.promises.specs.ServingPromise.Meanings.{cartridges}
+use Rattle.promises.specs.ServingPromise.Served.{Fixed, View, tree_after}
 use Rattle.held_volume.specs.Stocks.{Stocked}
-use Rattle.crash_laws.specs.Safe.{items_by}
-use Rattle.promise_laws.specs.Kept.{CanRead}
-use Rattle.order_laws.specs.Kept.{seen}
-use Rattle.plan_laws.specs.Planned.{Items}
-use Rattle.state_laws.specs.Parts.{Parts, view_of}
-use Rattle.closing_laws.specs.Closing.{IsAtRest}
-use Rattle.closing_laws.specs.Indexed.{EndsWithTree, cartridge_on}
-use Rattle.closing_laws.specs.Owned.{HasOwn, LeavesOwn, all_places}
-use Rattle.closing_laws.proofs.OwnLaw.{none_own}
+use Rattle.promises.specs.CrashLaws.Safe.{items_by}
+use Rattle.promises.specs.PromiseLaws.Kept.{CanRead}
+use Rattle.promises.specs.OrderLaws.Kept.{seen}
+use Rattle.volume_state.specs.PlanLaws.Planned.{Items}
+use Rattle.volume_state.specs.StateLaws.Parts.{Parts, view_of}
+use Rattle.volume_state.specs.ClosingLaws.Closing.{IsAtRest}
+use Rattle.volume_state.specs.ClosingLaws.Indexed.{EndsWithTree, cartridge_on}
+use Rattle.volume_state.specs.ClosingLaws.Owned.{HasOwn, LeavesOwn, all_places}
+use Rattle.volume_state.proofs.ClosingLaws.OwnLaw.{none_own}
 use Rattle.volume_core.specs.Finish.{AdmitsOnDp, lasts_of}
 use Rattle.volume_core.specs.Promised.{CanClose}
 use Rattle.volume_core.proofs.Admitted as admitted

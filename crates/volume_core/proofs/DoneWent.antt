@@ -8,7 +8,7 @@ use Rattle.tape_types.specs.declared.cartridges.Item.{Item}
 use Rattle.tape_types.specs.declared.cartridges.Item.TheVariants.{Block, Mark}
 use Rattle.tape_types.specs.declared.cartridges.Part.TheVariants.{Ip, Dp}
 use Rattle.plain_tree.specs.Tree.{Tree}
-use Rattle.index_construct.specs.Blocks.{blocks_of}
+use Rattle.tape_layout.specs.IndexConstruct.Blocks.{blocks_of}
 use Rattle.index_model.specs.Grammar.{IndexText}
 use Rattle.index_model.specs.declared.indexes.Index.{Index}
 use Rattle.content_laws.specs.Content.{Content}
@@ -24,20 +24,20 @@ use Rattle.cartridge_meaning.specs.Meaning.{AreAlike, FitsNode, HasOneIndex, IsC
 use Rattle.cartridge_meaning.specs.Pointers.{IsLastOnDp, indexes_of, last_block, letter_of, newest_spot}
 use Rattle.cartridge_meaning.specs.declared.labels.Labels.{Labels}
 use Rattle.cartridge_meaning.proofs.Frame.{labels_stay, tree_stays}
-use Rattle.image_laws.specs.Closed.{EndsWithClose}
-use Rattle.image_laws.specs.Made.{Made, Trees, cartridge_of}
-use Rattle.image_laws.specs.Plans.{IsCloseDue, IsReady}
-use Rattle.image_laws.proofs.Appends.{form_of}
-use Rattle.image_laws.proofs.Closed.{close_alike, close_consistent, close_dp_note, close_ip_note, close_stands}
-use Rattle.image_laws.proofs.Data.{ready_opened}
-use Rattle.image_laws.proofs.Indexes.{construct_content, construct_is, construct_long, construct_ready, joined}
-use Rattle.image_laws.proofs.Indexes.{new_construct, some_blocks, spot_named, with_construct}
-use Rattle.crash_laws.specs.Safe.{items_by}
+use Rattle.promises.specs.ImageLaws.Closed.{EndsWithClose}
+use Rattle.promises.specs.ImageLaws.Made.{Made, Trees, cartridge_of}
+use Rattle.promises.specs.ImageLaws.Plans.{IsCloseDue, IsReady}
+use Rattle.promises.proofs.ImageLaws.Appends.{form_of}
+use Rattle.promises.proofs.ImageLaws.Closed.{close_alike, close_consistent, close_dp_note, close_ip_note, close_stands}
+use Rattle.promises.proofs.ImageLaws.Data.{ready_opened}
+use Rattle.promises.proofs.ImageLaws.Indexes.{construct_content, construct_is, construct_long, construct_ready, joined}
+use Rattle.promises.proofs.ImageLaws.Indexes.{new_construct, some_blocks, spot_named, with_construct}
+use Rattle.promises.specs.CrashLaws.Safe.{items_by}
 use Rattle.space_laws.specs.Space.{Space}
-use Rattle.plan_laws.specs.Planned.{Items, ends_in}
-use Rattle.plan_laws.proofs.Ends.{ops_append}
-use Rattle.closing_laws.specs.Indexed.{EndsWithTree, cartridge_on}
-use Rattle.closing_laws.proofs.Opened.{put_items}
+use Rattle.volume_state.specs.PlanLaws.Planned.{Items, ends_in}
+use Rattle.volume_state.proofs.PlanLaws.Ends.{ops_append}
+use Rattle.volume_state.specs.ClosingLaws.Indexed.{EndsWithTree, cartridge_on}
+use Rattle.volume_state.proofs.ClosingLaws.Opened.{put_items}
 use Rattle.volume_core.specs.Commands.{Lasts, values_of}
 use Rattle.volume_core.specs.May.{MayTell}
 

@@ -7,7 +7,7 @@ use Rattle.tape_types.specs.declared.moments.Moment.{Moment}
 use Rattle.tape_drive.specs.declared.drive.Drive.{Ghosts}
 use Rattle.tape_layout.specs.Plans.{Plan}
 use Rattle.held_volume.specs.Stocks.{Stocked}
-use Rattle.serving_promise.specs.declared.answers.CloseEnd.{CloseEnd}
+use Rattle.promises.specs.declared.serving_promise.answers.CloseEnd.{CloseEnd}
 use Rattle.volume_core.specs.Commands.{AreOpsDone, EndsWith, Lasts}
 use Rattle.volume_core.specs.Finish.{AdmitsOnDp, AdmitsOnIp, Finishes, IsShortOnIp, close_end, lasts_of, short_end}
 

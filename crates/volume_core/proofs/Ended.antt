@@ -8,7 +8,7 @@ use Rattle.content_laws.specs.Readings.{Construct, HasForm, after_of, front}
 use Rattle.content_laws.proofs.Placed.{EndsAt, content_placed, pos_within}
 use Rattle.content_laws.proofs.Whole.{front_within}
 use Rattle.cartridge_meaning.specs.Pointers.{indexes_of, last_block}
-use Rattle.image_laws.proofs.Cut.{is_good}
+use Rattle.promises.proofs.ImageLaws.Cut.{is_good}
 
 last_ends : (pos long : ℕ) (phase : Phase) (k : Construct) (older : List Construct) → EndsAt pos phase (k ∷ older)
     → long ≡ after_of k → pos ≤ long → ((at : ℕ) → phase ≢ Bad at) → end_ip_in pos phase (k ∷ older) ≡ k.mark

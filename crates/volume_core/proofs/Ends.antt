@@ -13,26 +13,26 @@ use Rattle.plain_tree.specs.declared.calls.Placed.{Placed}
 use Rattle.session_script.specs.Sessions.{greatest_session}
 use Rattle.session_script.specs.declared.logs.Event.{Event}
 use Rattle.session_script.specs.declared.logs.Event.TheVariants.{Rests}
-use Rattle.event_laws.specs.Trail.{after_all, allows, drains_now}
-use Rattle.event_laws.specs.Waiting as waiting
-use Rattle.event_laws.specs.Waiting.{State, is_due}
+use Rattle.head_queue.specs.EventLaws.Trail.{after_all, allows, drains_now}
+use Rattle.head_queue.specs.EventLaws.Waiting as waiting
+use Rattle.head_queue.specs.EventLaws.Waiting.{State, is_due}
 use Rattle.tape_layout.specs.declared.ops.Op.{Op}
-use Rattle.serving_promise.specs.Faults.{kept_for}
-use Rattle.serving_promise.specs.Marks.{draining, idle, phase, places_of}
-use Rattle.serving_promise.specs.Served.{AreMarks, Fixed, View, headed}
-use Rattle.serving_promise.specs.Steps.{drain_faults}
-use Rattle.order_laws.specs.Kept.{owed}
-use Rattle.order_laws.proofs.Marked.{marks_stay}
-use Rattle.order_laws.proofs.Owned.{after_more}
-use Rattle.order_laws.proofs.Placing.{as_many_places}
-use Rattle.order_laws.proofs.Turning.{all_turn, drains_are_kept, drains_of}
+use Rattle.promises.specs.ServingPromise.Faults.{kept_for}
+use Rattle.promises.specs.ServingPromise.Marks.{draining, idle, phase, places_of}
+use Rattle.promises.specs.ServingPromise.Served.{AreMarks, Fixed, View, headed}
+use Rattle.promises.specs.ServingPromise.Steps.{drain_faults}
+use Rattle.promises.specs.OrderLaws.Kept.{owed}
+use Rattle.promises.proofs.OrderLaws.Marked.{marks_stay}
+use Rattle.promises.proofs.OrderLaws.Owned.{after_more}
+use Rattle.promises.proofs.OrderLaws.Placing.{as_many_places}
+use Rattle.promises.proofs.OrderLaws.Turning.{all_turn, drains_are_kept, drains_of}
 use Rattle.event_journal.specs.Trails.{due_ticket, state}
-use Rattle.call_laws.specs.StepLaws.{Stepped}
-use Rattle.state_laws.specs.Parts.{Parts, view_of}
-use Rattle.state_laws.specs.Tied.{IsTied}
-use Rattle.call_laws.specs.Handing.{StepsOn}
-use Rattle.call_laws.specs.Running.{IsRunning}
-use Rattle.volume_steps.proofs.QueueLemmas.{none_is_due}
+use Rattle.volume_state.specs.CallLaws.StepLaws.{Stepped}
+use Rattle.volume_state.specs.StateLaws.Parts.{Parts, view_of}
+use Rattle.volume_state.specs.StateLaws.Tied.{IsTied}
+use Rattle.volume_state.specs.CallLaws.Handing.{StepsOn}
+use Rattle.volume_state.specs.CallLaws.Running.{IsRunning}
+use Rattle.volume_core.proofs.VolumeSteps.QueueLemmas.{none_is_due}
 use Rattle.volume_core.specs.Drains.{CanEnd, CanFault}
 use Rattle.volume_core.proofs.Counting.{calls_left}
 use Rattle.volume_core.proofs.Ready.{of_script, shown, still_drains}

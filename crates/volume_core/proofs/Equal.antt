@@ -6,9 +6,9 @@ use Rattle.std.specs.FinMap as fin
 use Rattle.tape_types.specs.declared.moments.Moment.{Moment}
 use Rattle.tape_types.specs.declared.moments.Times.{Times}
 use Rattle.tape_types.proofs.CivilLemmas.{same_moment}
-use Rattle.doc_fields.specs.declared.values.LockState.{LockState}
-use Rattle.doc_fields.specs.declared.values.LockState.TheVariants.{Unlocked, Locked, PermLocked}
-use Rattle.node_keys.specs.Keys.{KeyMap}
+use Rattle.ltfs_documents.specs.declared.doc_fields.values.LockState.{LockState}
+use Rattle.ltfs_documents.specs.declared.doc_fields.values.LockState.TheVariants.{Unlocked, Locked, PermLocked}
+use Rattle.tape_types.specs.NodeKeys.Keys.{KeyMap}
 use Rattle.index_model.specs.declared.indexes.Policy.{Policy}
 use Rattle.plain_tree.specs.Cells.{Cell}
 use Rattle.plain_tree.specs.Paths.{Path}

@@ -4,10 +4,10 @@ use Rattle.tape_types.specs.declared.cartridges.Cartridge.{Cartridge}
 use Rattle.tape_types.specs.declared.cartridges.Part.TheVariants.{Ip, Dp}
 use Rattle.tape_drive.specs.declared.drive.Drive.{Ghosts}
 use Rattle.tape_layout.specs.declared.ops.Op.{Op}
-use Rattle.plan_laws.specs.Planned.{IsOnWay, Items}
-use Rattle.plan_laws.proofs.Ways.{ways_go_on}
-use Rattle.closing_laws.specs.Whole.{IsWhole}
-use Rattle.closing_laws.proofs.Wholes.{whole_done}
+use Rattle.volume_state.specs.PlanLaws.Planned.{IsOnWay, Items}
+use Rattle.volume_state.proofs.PlanLaws.Ways.{ways_go_on}
+use Rattle.volume_state.specs.ClosingLaws.Whole.{IsWhole}
+use Rattle.volume_state.proofs.ClosingLaws.Wholes.{whole_done}
 use Rattle.volume_core.specs.Commands as closing
 use Rattle.volume_core.specs.Commands.{DoesOps}
 

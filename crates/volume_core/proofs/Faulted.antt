@@ -10,19 +10,19 @@ use Rattle.plain_tree.specs.declared.calls.Placed.{Placed}
 use Rattle.session_script.specs.declared.logs.Reply.{Reply}
 use Rattle.session_script.specs.declared.logs.Reply.TheVariants.{Fault}
 use Rattle.tape_types.specs.declared.moments.Moment.{Moment}
-use Rattle.serving_promise.specs.Faults.{kept_for}
-use Rattle.serving_promise.specs.Marks.{after, draining, mark, phase, placed_and_handed, places_of, waits}
-use Rattle.serving_promise.specs.Steps.{without_session}
-use Rattle.serving_promise.specs.declared.marks.MarkKind.TheVariants as kinds
-use Rattle.serving_promise.specs.declared.marks.Mark.{Mark}
-use Rattle.order_laws.proofs.Marked.{phase_more}
+use Rattle.promises.specs.ServingPromise.Faults.{kept_for}
+use Rattle.promises.specs.ServingPromise.Marks.{after, draining, mark, phase, placed_and_handed, places_of, waits}
+use Rattle.promises.specs.ServingPromise.Steps.{without_session}
+use Rattle.promises.specs.declared.serving_promise.marks.MarkKind.TheVariants as kinds
+use Rattle.promises.specs.declared.serving_promise.marks.Mark.{Mark}
+use Rattle.promises.proofs.OrderLaws.Marked.{phase_more}
 use Rattle.event_journal.specs.Placements.{Listed, or_none, there}
 use Rattle.event_journal.specs.Trails.{Journaled}
-use Rattle.state_laws.specs.Parts.{Parts}
-use Rattle.state_laws.specs.Placing.{PlacesCall}
-use Rattle.call_laws.specs.Draining.{TakesFault}
-use Rattle.volume_steps.specs.Seen.{seen_parts}
-use Rattle.volume_steps.specs.declared.parts.Parts.{Parts as Held}
+use Rattle.volume_state.specs.StateLaws.Parts.{Parts}
+use Rattle.volume_state.specs.StateLaws.Placing.{PlacesCall}
+use Rattle.volume_state.specs.CallLaws.Draining.{TakesFault}
+use Rattle.volume_core.specs.VolumeSteps.Seen.{seen_parts}
+use Rattle.volume_core.specs.declared.volume_steps.parts.Parts.{Parts as Held}
 
 -- a call is placed at the end
 pub record PlacesHere (placed : Placed) (old new : Listed) : Type 0 where

@@ -5,14 +5,14 @@ use Rattle.tape_types.specs.declared.moments.Moment.{Moment}
 use Rattle.tape_types.specs.declared.cartridges.Twin.{Twin}
 use Rattle.tape_drive.specs.declared.drive.Drive.{Ghosts}
 use Rattle.session_script.specs.declared.logs.Event.{Event}
-use Rattle.event_laws.specs.Waiting.{first_of}
-use Rattle.serving_promise.specs.Marks.{places_of}
-use Rattle.serving_promise.specs.declared.answers.Drained.{Drained}
-use Rattle.serving_promise.specs.declared.answers.Drained.TheVariants as the_drained
-use Rattle.serving_promise.specs.declared.marks.Mark.{Mark}
-use Rattle.state_laws.specs.Parts.{Parts}
-use Rattle.call_laws.specs.Draining.{IsFull, TakesFault, fault, room, then_fault, then_more, then_room}
-use Rattle.call_laws.specs.Handing.{StepsOn}
+use Rattle.head_queue.specs.EventLaws.Waiting.{first_of}
+use Rattle.promises.specs.ServingPromise.Marks.{places_of}
+use Rattle.promises.specs.declared.serving_promise.answers.Drained.{Drained}
+use Rattle.promises.specs.declared.serving_promise.answers.Drained.TheVariants as the_drained
+use Rattle.promises.specs.declared.serving_promise.marks.Mark.{Mark}
+use Rattle.volume_state.specs.StateLaws.Parts.{Parts}
+use Rattle.volume_state.specs.CallLaws.Draining.{IsFull, TakesFault, fault, room, then_fault, then_more, then_room}
+use Rattle.volume_state.specs.CallLaws.Handing.{StepsOn}
 use Rattle.volume_core.specs.Drains.{EndsAt}
 use Rattle.volume_core.specs.Turns.{DrainsAt, Gives, Told, told}
 

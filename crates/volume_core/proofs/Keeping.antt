@@ -11,13 +11,13 @@ use Rattle.tape_drive.specs.declared.drive.Drive.{Ghosts}
 use Rattle.tape_layout.specs.declared.ops.Op.{Op}
 use Rattle.cartridge_meaning.specs.Carried.{carried}
 use Rattle.cartridge_meaning.specs.Notes.{TellsOfLast}
-use Rattle.serving_promise.specs.Crash.{SurvivesCrashes}
-use Rattle.serving_promise.specs.Meanings.{cartridges}
-use Rattle.serving_promise.specs.Served.{View, tree_after}
-use Rattle.crash_laws.specs.Safe.{Planned, seen_by}
-use Rattle.closing_laws.specs.Closing.{IsAtRest, IsClosing}
-use Rattle.closing_laws.specs.Laws.{ClosesAreSafe}
-use Rattle.closing_laws.proofs.Keeps.{closes_are_safe}
+use Rattle.promises.specs.ServingPromise.Crash.{SurvivesCrashes}
+use Rattle.promises.specs.ServingPromise.Meanings.{cartridges}
+use Rattle.promises.specs.ServingPromise.Served.{View, tree_after}
+use Rattle.promises.specs.CrashLaws.Safe.{Planned, seen_by}
+use Rattle.volume_state.specs.ClosingLaws.Closing.{IsAtRest, IsClosing}
+use Rattle.volume_state.specs.ClosingLaws.Laws.{ClosesAreSafe}
+use Rattle.volume_state.proofs.ClosingLaws.Keeps.{closes_are_safe}
 use Rattle.volume_core.specs.Commands as closing
 use Rattle.volume_core.specs.Commands.{AreOpsDone, DoesOps, EndsWith, FailsOp, IsDpNoteWritten, IsNoteWritten}
 use Rattle.volume_core.specs.Commands.{Lasts, WritesNotes, WritesNotesIf, values_of}

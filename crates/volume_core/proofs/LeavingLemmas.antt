@@ -9,14 +9,14 @@ use Rattle.session_script.specs.Sessions.{greatest_session}
 use Rattle.session_script.specs.declared.logs.Log.{Log}
 use Rattle.session_script.specs.declared.logs.Reply.{Reply}
 use Rattle.file_tree.specs.Valid.{IsGood}
-use Rattle.serving_promise.specs.Ends.{Closes, TellsNodes, Parts as LeavesApart}
-use Rattle.serving_promise.specs.Marks.{NothingWaits}
-use Rattle.serving_promise.specs.Served.{Fixed, View, tree_after}
-use Rattle.serving_promise.specs.Meanings.{cartridges}
-use Rattle.serving_promise.specs.declared.answers.CloseEnd.{CloseEnd}
-use Rattle.order_laws.specs.Kept.{seen}
-use Rattle.order_laws.proofs.PhaseLaw.{nothing_waits}
-use Rattle.state_laws.specs.Parts.{Parts, view_of}
+use Rattle.promises.specs.ServingPromise.Ends.{Closes, TellsNodes, Parts as LeavesApart}
+use Rattle.promises.specs.ServingPromise.Marks.{NothingWaits}
+use Rattle.promises.specs.ServingPromise.Served.{Fixed, View, tree_after}
+use Rattle.promises.specs.ServingPromise.Meanings.{cartridges}
+use Rattle.promises.specs.declared.serving_promise.answers.CloseEnd.{CloseEnd}
+use Rattle.promises.specs.OrderLaws.Kept.{seen}
+use Rattle.promises.proofs.OrderLaws.PhaseLaw.{nothing_waits}
+use Rattle.volume_state.specs.StateLaws.Parts.{Parts, view_of}
 use Rattle.volume_core.specs.Promised.{CanClose, ClosesEnd, EndsAsPromised, IsToClose, LeavesOwnIndexes}
 use Rattle.volume_core.specs.Leaving.{IsClosed}
 use Rattle.volume_core.specs.Serving.{IsServing, next_moment}

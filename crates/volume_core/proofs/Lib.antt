@@ -41,3 +41,4 @@ pub mod Still
 mod Submissions
 pub mod There
 pub mod Unchanged
+pub mod VolumeSteps

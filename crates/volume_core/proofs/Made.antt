@@ -4,17 +4,17 @@ use Rattle.std.proofs.Common.{sym, ap, subst, ◌∙◌}
 use Rattle.tape_drive.specs.declared.drive.Drive.{Ghosts}
 use Rattle.session_script.specs.declared.logs.Event.{Event}
 use Rattle.session_script.specs.declared.logs.Reply.{Reply}
-use Rattle.serving_promise.specs.Marks.{draining, phase, places_of, waits}
-use Rattle.serving_promise.specs.declared.answers.Drained.{Drained}
-use Rattle.serving_promise.specs.declared.answers.Drained.TheVariants as the_drained
-use Rattle.serving_promise.specs.declared.answers.Turn.TheVariants as the_turns
-use Rattle.call_laws.specs.StepLaws.{CanStep}
-use Rattle.call_laws.specs.Draining.{IsFull}
-use Rattle.call_laws.specs.Handing.{HandsOut, StepsOn, TurnsTo, more, then_ready}
-use Rattle.volume_steps.specs.Handed.{CanHand}
-use Rattle.volume_steps.specs.Moves.{IsReady}
-use Rattle.volume_steps.specs.Seen.{seen_parts}
-use Rattle.volume_steps.specs.declared.parts.Parts.{Parts as Held}
+use Rattle.promises.specs.ServingPromise.Marks.{draining, phase, places_of, waits}
+use Rattle.promises.specs.declared.serving_promise.answers.Drained.{Drained}
+use Rattle.promises.specs.declared.serving_promise.answers.Drained.TheVariants as the_drained
+use Rattle.promises.specs.declared.serving_promise.answers.Turn.TheVariants as the_turns
+use Rattle.volume_state.specs.CallLaws.StepLaws.{CanStep}
+use Rattle.volume_state.specs.CallLaws.Draining.{IsFull}
+use Rattle.volume_state.specs.CallLaws.Handing.{HandsOut, StepsOn, TurnsTo, more, then_ready}
+use Rattle.volume_core.specs.VolumeSteps.Handed.{CanHand}
+use Rattle.volume_core.specs.VolumeSteps.Moves.{IsReady}
+use Rattle.volume_core.specs.VolumeSteps.Seen.{seen_parts}
+use Rattle.volume_core.specs.declared.volume_steps.parts.Parts.{Parts as Held}
 use Rattle.volume_core.specs.Drains.{CanEnd, EndsAt}
 use Rattle.volume_core.specs.Turns.{DrainsAt, Runs, Told}
 use Rattle.volume_core.proofs.Ends.{can_end, ends_then as ends_on}

@@ -13,15 +13,15 @@ use Rattle.tape_drive.specs.declared.drive.Drive.{Ghosts}
 use Rattle.tape_layout.specs.declared.ops.Op.{Op}
 use Rattle.cartridge_meaning.specs.Carried.{carried}
 use Rattle.head_core.specs.Steps.{MayDo, WithinOp}
-use Rattle.serving_promise.specs.Served.{Fixed, View}
+use Rattle.promises.specs.ServingPromise.Served.{Fixed, View}
 use Rattle.held_volume.specs.Stocks.{Stocked}
-use Rattle.crash_laws.specs.Laws.{CanServe}
-use Rattle.crash_laws.specs.May.{AllowsServed, IsAllowed}
-use Rattle.state_laws.specs.Parts.{Parts, view_of}
-use Rattle.closing_laws.specs.Closing.{IsAtRest, IsClosing}
-use Rattle.closing_laws.specs.May.{IsAllowedView}
-use Rattle.closing_laws.proofs.Keeps.{closes_are_safe}
-use Rattle.closing_laws.proofs.May.{closes_may}
+use Rattle.promises.specs.CrashLaws.Laws.{CanServe}
+use Rattle.promises.specs.CrashLaws.May.{AllowsServed, IsAllowed}
+use Rattle.volume_state.specs.StateLaws.Parts.{Parts, view_of}
+use Rattle.volume_state.specs.ClosingLaws.Closing.{IsAtRest, IsClosing}
+use Rattle.volume_state.specs.ClosingLaws.May.{IsAllowedView}
+use Rattle.volume_state.proofs.ClosingLaws.Keeps.{closes_are_safe}
+use Rattle.volume_state.proofs.ClosingLaws.May.{closes_may}
 use Rattle.volume_core.specs.Commands.{DoesOps, IsNoteWritten, IsVcrRead, Lasts, values_of}
 use Rattle.volume_core.specs.Doing.{IsOneDone}
 use Rattle.volume_core.specs.Finish.{AdmitsOnDp, AdmitsOnIp, lasts_of}

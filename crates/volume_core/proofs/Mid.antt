@@ -6,11 +6,11 @@ use Rattle.tape_layout.specs.Plans.{Plan}
 use Rattle.space_laws.specs.Closing.{close_ask}
 use Rattle.space_laws.specs.Space.{is_over}
 use Rattle.space_laws.specs.Standing.{rules}
-use Rattle.serving_promise.specs.Served.{Fixed}
+use Rattle.promises.specs.ServingPromise.Served.{Fixed}
 use Rattle.held_volume.specs.Closed.{IsDpDone}
 use Rattle.held_volume.specs.Stocks.{IsStock, Stocked}
-use Rattle.plan_laws.specs.Planned.{Items, tape_on}
-use Rattle.state_laws.specs.Parts.{Parts}
+use Rattle.volume_state.specs.PlanLaws.Planned.{Items, tape_on}
+use Rattle.volume_state.specs.StateLaws.Parts.{Parts}
 use Rattle.volume_core.specs.Finish.{AdmitsOnDp, AdmitsOnIp, IsAdmittedOnIp}
 use Rattle.volume_core.specs.Promised.{CanClose}
 use Rattle.volume_core.proofs.Admitted.{asked, g, held, on, st, st1}

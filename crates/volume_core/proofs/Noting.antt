@@ -13,10 +13,10 @@ use Rattle.tape_drive.specs.declared.drive.Drive.{Ghosts}
 use Rattle.ltfs_label.specs.declared.Label.{Label}
 use Rattle.cartridge_meaning.specs.Notes.{TellsOfLast}
 use Rattle.cartridge_meaning.specs.Pointers.{IsLastOnDp, IsLastOnIp, indexes_of, last_block}
-use Rattle.image_laws.specs.Kept.{IsStep}
-use Rattle.image_laws.specs.Moments.{moment_of}
-use Rattle.closing_laws.specs.Closing.{IsAtRest}
-use Rattle.closing_laws.proofs.Keeps.{closes_are_safe}
+use Rattle.promises.specs.ImageLaws.Kept.{IsStep}
+use Rattle.promises.specs.ImageLaws.Moments.{moment_of}
+use Rattle.volume_state.specs.ClosingLaws.Closing.{IsAtRest}
+use Rattle.volume_state.proofs.ClosingLaws.Keeps.{closes_are_safe}
 use Rattle.volume_core.specs.Commands.{IsNoteWritten, IsVcrRead, Lasts, values_of}
 use Rattle.volume_core.specs.May.{MayTell}
 

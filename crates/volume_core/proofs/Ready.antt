@@ -9,27 +9,27 @@ use Rattle.tape_drive.specs.declared.drive.Drive.{Ghosts}
 use Rattle.plain_tree.specs.declared.calls.Placed.{Placed}
 use Rattle.session_script.specs.Sessions.{greatest_session}
 use Rattle.session_script.specs.declared.logs.Event.{Event}
-use Rattle.event_laws.specs.Trail.{drains_now}
-use Rattle.event_laws.specs.Waiting.{Request, State, Waiter, is_calm, waiting_op}
+use Rattle.head_queue.specs.EventLaws.Trail.{drains_now}
+use Rattle.head_queue.specs.EventLaws.Waiting.{Request, State, Waiter, is_calm, waiting_op}
 use Rattle.tape_layout.specs.Plans.{Plan as Layout}
 use Rattle.tape_layout.specs.declared.ops.Op.{Op}
-use Rattle.serving_promise.specs.Faults.{kept_for}
-use Rattle.serving_promise.specs.Marks.{draining, idle, phase, waits}
-use Rattle.serving_promise.specs.Served.{Fixed, headed}
-use Rattle.order_laws.proofs.Marked.{marked}
-use Rattle.order_laws.proofs.Picked.{passes}
+use Rattle.promises.specs.ServingPromise.Faults.{kept_for}
+use Rattle.promises.specs.ServingPromise.Marks.{draining, idle, phase, waits}
+use Rattle.promises.specs.ServingPromise.Served.{Fixed, headed}
+use Rattle.promises.proofs.OrderLaws.Marked.{marked}
+use Rattle.promises.proofs.OrderLaws.Picked.{passes}
 use Rattle.event_journal.specs.Trails.{state}
-use Rattle.call_laws.specs.StepLaws.{CanStep, Stepped}
-use Rattle.call_laws.proofs.CanLaw.{steps_can_be_made}
-use Rattle.call_laws.proofs.ShowLaw.{steps_show}
-use Rattle.state_laws.specs.Parts.{Parts, view_of}
-use Rattle.state_laws.specs.Tied.{IsTied}
-use Rattle.call_laws.specs.Draining.{IsFull}
-use Rattle.call_laws.specs.Handing.{StepsOn}
-use Rattle.call_laws.specs.Running.{HasAnswers, IsRunning}
-use Rattle.call_laws.proofs.TurnAnswers.{answers_stay, placed_by_it, waits_alone}
-use Rattle.volume_steps.specs.Handed.{CanHand}
-use Rattle.volume_steps.specs.Moves.{HasWork, IsReady}
+use Rattle.volume_state.specs.CallLaws.StepLaws.{CanStep, Stepped}
+use Rattle.volume_state.proofs.CallLaws.CanLaw.{steps_can_be_made}
+use Rattle.volume_state.proofs.CallLaws.ShowLaw.{steps_show}
+use Rattle.volume_state.specs.StateLaws.Parts.{Parts, view_of}
+use Rattle.volume_state.specs.StateLaws.Tied.{IsTied}
+use Rattle.volume_state.specs.CallLaws.Draining.{IsFull}
+use Rattle.volume_state.specs.CallLaws.Handing.{StepsOn}
+use Rattle.volume_state.specs.CallLaws.Running.{HasAnswers, IsRunning}
+use Rattle.volume_state.proofs.CallLaws.TurnAnswers.{answers_stay, placed_by_it, waits_alone}
+use Rattle.volume_core.specs.VolumeSteps.Handed.{CanHand}
+use Rattle.volume_core.specs.VolumeSteps.Moves.{HasWork, IsReady}
 
 -- ---- lists and tests
 

@@ -8,26 +8,26 @@ use Rattle.tape_drive.specs.declared.drive.Drive.{Ghosts}
 use Rattle.plain_tree.specs.declared.calls.Placed.{Placed}
 use Rattle.session_script.specs.declared.logs.Event.{Event}
 use Rattle.tape_layout.specs.declared.ops.Op.{Op}
-use Rattle.serving_promise.specs.Marks.{draining, phase, places_of, waits}
-use Rattle.serving_promise.specs.Meanings.{cartridges}
-use Rattle.serving_promise.specs.Served.{Fixed, IsServed, View}
-use Rattle.serving_promise.specs.Steps.{DrainsOnce, Turns}
-use Rattle.serving_promise.specs.declared.answers.Drained.{Drained}
-use Rattle.serving_promise.specs.declared.answers.Drained.TheVariants as the_drained
-use Rattle.serving_promise.specs.declared.answers.Turn.{Turn}
-use Rattle.order_laws.specs.Kept.{seen}
-use Rattle.order_laws.specs.Sides.{AsksOneMoment}
-use Rattle.order_laws.proofs.Picked.{passes}
+use Rattle.promises.specs.ServingPromise.Marks.{draining, phase, places_of, waits}
+use Rattle.promises.specs.ServingPromise.Meanings.{cartridges}
+use Rattle.promises.specs.ServingPromise.Served.{Fixed, IsServed, View}
+use Rattle.promises.specs.ServingPromise.Steps.{DrainsOnce, Turns}
+use Rattle.promises.specs.declared.serving_promise.answers.Drained.{Drained}
+use Rattle.promises.specs.declared.serving_promise.answers.Drained.TheVariants as the_drained
+use Rattle.promises.specs.declared.serving_promise.answers.Turn.{Turn}
+use Rattle.promises.specs.OrderLaws.Kept.{seen}
+use Rattle.promises.specs.OrderLaws.Sides.{AsksOneMoment}
+use Rattle.promises.proofs.OrderLaws.Picked.{passes}
 use Rattle.held_volume.specs.Stocks.{Stocked}
-use Rattle.state_laws.specs.Parts.{Parts, view_of}
-use Rattle.call_laws.specs.Draining.{DrainsTo, IsFull, fault, room, then_fault, then_more, then_room}
-use Rattle.call_laws.specs.Handing.{StepsOn, TurnsTo}
-use Rattle.call_laws.specs.Laws.{IsAfter}
-use Rattle.call_laws.specs.Running.{IsRunning}
-use Rattle.call_laws.proofs.DrainTurn.{drain_turns_all_run}
-use Rattle.call_laws.proofs.Promised.{running_is_promised}
-use Rattle.call_laws.proofs.TurnAnswers.{placed_by_it}
-use Rattle.call_laws.proofs.TurnLaw.{turns_run}
+use Rattle.volume_state.specs.StateLaws.Parts.{Parts, view_of}
+use Rattle.volume_state.specs.CallLaws.Draining.{DrainsTo, IsFull, fault, room, then_fault, then_more, then_room}
+use Rattle.volume_state.specs.CallLaws.Handing.{StepsOn, TurnsTo}
+use Rattle.volume_state.specs.CallLaws.Laws.{IsAfter}
+use Rattle.volume_state.specs.CallLaws.Running.{IsRunning}
+use Rattle.volume_state.proofs.CallLaws.DrainTurn.{drain_turns_all_run}
+use Rattle.volume_state.proofs.CallLaws.Promised.{running_is_promised}
+use Rattle.volume_state.proofs.CallLaws.TurnAnswers.{placed_by_it}
+use Rattle.volume_state.proofs.CallLaws.TurnLaw.{turns_run}
 use Rattle.volume_core.specs.Serving.{IsServing, next_moment}
 use Rattle.volume_core.specs.Turns.{DrainsAt, Told, told}
 use Rattle.volume_core.proofs.Ready.{shown}

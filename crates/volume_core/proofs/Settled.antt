@@ -7,9 +7,9 @@ use Rattle.tape_layout.specs.declared.ops.Op.TheVariants as the_ops
 use Rattle.head_core.specs.Steps.{IsEndOfFlush, IsOpStep}
 use Rattle.head_core.specs.declared.work.StepDone.{StepDone}
 use Rattle.head_core.specs.declared.work.StepDone.TheVariants as outcome
-use Rattle.crash_laws.specs.Changes.{IsWell}
-use Rattle.closing_laws.specs.Closing.{IsAtRest}
-use Rattle.closing_laws.proofs.Keeps.{closes_are_safe}
+use Rattle.promises.specs.CrashLaws.Changes.{IsWell}
+use Rattle.volume_state.specs.ClosingLaws.Closing.{IsAtRest}
+use Rattle.volume_state.proofs.ClosingLaws.Keeps.{closes_are_safe}
 use Rattle.volume_core.specs.Commands as closing
 use Rattle.volume_core.specs.Commands.{DoesOps}
 

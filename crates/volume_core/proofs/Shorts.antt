@@ -8,7 +8,7 @@ use Rattle.space_laws.specs.Closing.{close_limit, close_need, is_ip_due}
 use Rattle.space_laws.specs.Standing.{Given, Standing, is_on, standing}
 use Rattle.held_volume.specs.Closed.{closed_dp}
 use Rattle.held_volume.specs.Stocks.{IsStock, Stocked}
-use Rattle.serving_promise.specs.Ends.{IsCloseShort, IsDpShort, IsShortOnDp}
+use Rattle.promises.specs.ServingPromise.Ends.{IsCloseShort, IsDpShort, IsShortOnDp}
 use Rattle.volume_core.specs.Finish.{AdmitsOnDp, AdmitsOnIp, IsAdmittedOnIp, IsShortOnIp}
 use Rattle.volume_core.specs.Finish as told
 

@@ -18,15 +18,15 @@ use Rattle.cartridge_meaning.specs.Mounts.{IsDpDone, IsIpDone, Mounts, chosen_pl
 use Rattle.cartridge_meaning.specs.Pointers.{IsLastOnDp, IsLastOnIp, chosen, indexes_of, last_block}
 use Rattle.cartridge_meaning.specs.declared.mounted.Mounted.{Mounted}
 use Rattle.ltfs_label.specs.Values.{label_of}
-use Rattle.image_laws.proofs.Cut.{long_front}
+use Rattle.promises.proofs.ImageLaws.Cut.{long_front}
 use Rattle.space_laws.specs.Closing.{is_dp_due, is_ip_due}
 use Rattle.space_laws.specs.Space as space
 use Rattle.space_laws.specs.Space.{Space, first_space, ops_of}
 use Rattle.space_laws.specs.Standing.{Given, Standing, rules, sync_text}
-use Rattle.serving_promise.specs.Served.{Fixed}
-use Rattle.promise_laws.specs.Kept.{CanRead}
-use Rattle.state_laws.specs.Parts.{Parts}
-use Rattle.closing_laws.specs.Closing.{IsAtRest}
+use Rattle.promises.specs.ServingPromise.Served.{Fixed}
+use Rattle.promises.specs.PromiseLaws.Kept.{CanRead}
+use Rattle.volume_state.specs.StateLaws.Parts.{Parts}
+use Rattle.volume_state.specs.ClosingLaws.Closing.{IsAtRest}
 use Rattle.volume_core.specs.Commands.{Lasts}
 use Rattle.volume_core.specs.Promised.{CanClose}
 use Rattle.volume_core.proofs.Admitted as admitted

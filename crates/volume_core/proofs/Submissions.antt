@@ -11,28 +11,28 @@ use Rattle.plain_tree.specs.declared.calls.Fate.TheVariants as fates
 use Rattle.plain_tree.specs.declared.calls.Placed.{Placed}
 use Rattle.session_script.specs.Grammar.{calls_of}
 use Rattle.session_script.specs.declared.logs.Reply.TheVariants as replies
-use Rattle.event_laws.specs.Trail.{after_all}
-use Rattle.event_laws.specs.Waiting.{ops}
+use Rattle.head_queue.specs.EventLaws.Trail.{after_all}
+use Rattle.head_queue.specs.EventLaws.Waiting.{ops}
 use Rattle.tape_layout.specs.declared.ops.Op.{Op}
 use Rattle.file_tree.specs.Valid.{IsGood}
-use Rattle.serving_promise.specs.Meanings.{cartridges}
-use Rattle.serving_promise.specs.Replies.{is_write}
-use Rattle.serving_promise.specs.Served.{Fixed, IsServed, View, headed}
-use Rattle.serving_promise.specs.Submits as model
-use Rattle.serving_promise.specs.Submits.{CanSubmit, Submits, call_of}
-use Rattle.serving_promise.specs.declared.answers.Submitted.{Submitted}
-use Rattle.serving_promise.specs.declared.answers.Submitted.TheVariants as submitted
-use Rattle.order_laws.specs.Kept.{seen}
-use Rattle.order_laws.specs.Laws.{IsInOrder}
-use Rattle.order_laws.specs.Sides.{HasOneMoment}
-use Rattle.state_laws.specs.Parts.{Parts, view_of}
-use Rattle.state_laws.specs.Placing.{PutsOff}
-use Rattle.call_laws.specs.SubmitLaws.{Made, puts_off}
-use Rattle.call_laws.specs.Running.{IsRunning}
-use Rattle.call_laws.proofs.Promised.{running_is_promised}
-use Rattle.call_laws.proofs.Submitted.{submissions_run}
-use Rattle.volume_steps.specs.Asking.{CanAsk, Finishes, IsSubmitted, Reserves}
-use Rattle.volume_steps.proofs.SubmitLemmas.{no_memory}
+use Rattle.promises.specs.ServingPromise.Meanings.{cartridges}
+use Rattle.promises.specs.ServingPromise.Replies.{is_write}
+use Rattle.promises.specs.ServingPromise.Served.{Fixed, IsServed, View, headed}
+use Rattle.promises.specs.ServingPromise.Submits as model
+use Rattle.promises.specs.ServingPromise.Submits.{CanSubmit, Submits, call_of}
+use Rattle.promises.specs.declared.serving_promise.answers.Submitted.{Submitted}
+use Rattle.promises.specs.declared.serving_promise.answers.Submitted.TheVariants as submitted
+use Rattle.promises.specs.OrderLaws.Kept.{seen}
+use Rattle.promises.specs.OrderLaws.Laws.{IsInOrder}
+use Rattle.promises.specs.OrderLaws.Sides.{HasOneMoment}
+use Rattle.volume_state.specs.StateLaws.Parts.{Parts, view_of}
+use Rattle.volume_state.specs.StateLaws.Placing.{PutsOff}
+use Rattle.volume_state.specs.CallLaws.SubmitLaws.{Made, puts_off}
+use Rattle.volume_state.specs.CallLaws.Running.{IsRunning}
+use Rattle.volume_state.proofs.CallLaws.Promised.{running_is_promised}
+use Rattle.volume_state.proofs.CallLaws.Submitted.{submissions_run}
+use Rattle.volume_core.specs.VolumeSteps.Asking.{CanAsk, Finishes, IsSubmitted, Reserves}
+use Rattle.volume_core.proofs.VolumeSteps.SubmitLemmas.{no_memory}
 use Rattle.volume_core.specs.Serving.{IsServing, next_moment}
 use Rattle.volume_core.specs.Turns.{Gives, SubmitsAt, Told, told}
 

@@ -15,21 +15,21 @@ use Rattle.tape_layout.proofs.Leads.{index_leads}
 use Rattle.space_laws.specs.Closing.{close_limit, close_need, close_text, is_dp_due}
 use Rattle.space_laws.specs.Space.{Rules, Space, blocks, index, ops_of}
 use Rattle.space_laws.specs.Standing.{Given, Standing, rules, sync_text}
-use Rattle.serving_promise.specs.Served.{Fixed, View}
-use Rattle.promise_laws.specs.Kept.{CanRead}
-use Rattle.plan_laws.specs.Planned.{IsOnWay, Items, ends_in, with_ops}
-use Rattle.plan_laws.proofs.Ways.{ways_go_on}
-use Rattle.state_laws.specs.Parts.{Parts, view_of}
-use Rattle.closing_laws.specs.Ready.{HasDpIndex}
-use Rattle.closing_laws.specs.Whole.{IsWhole}
-use Rattle.closing_laws.proofs.Asked.{has_by}
-use Rattle.closing_laws.proofs.Wholes.{whole_grows, whole_indexed, wholes_stay}
-use Rattle.image_laws.specs.Made.{plain}
-use Rattle.crash_laws.proofs.Admits.{op_of, plain_ops}
-use Rattle.closing_laws.specs.Laws.{close_ops}
+use Rattle.promises.specs.ServingPromise.Served.{Fixed, View}
+use Rattle.promises.specs.PromiseLaws.Kept.{CanRead}
+use Rattle.volume_state.specs.PlanLaws.Planned.{IsOnWay, Items, ends_in, with_ops}
+use Rattle.volume_state.proofs.PlanLaws.Ways.{ways_go_on}
+use Rattle.volume_state.specs.StateLaws.Parts.{Parts, view_of}
+use Rattle.volume_state.specs.ClosingLaws.Ready.{HasDpIndex}
+use Rattle.volume_state.specs.ClosingLaws.Whole.{IsWhole}
+use Rattle.volume_state.proofs.ClosingLaws.Asked.{has_by}
+use Rattle.volume_state.proofs.ClosingLaws.Wholes.{whole_grows, whole_indexed, wholes_stay}
+use Rattle.promises.specs.ImageLaws.Made.{plain}
+use Rattle.promises.proofs.CrashLaws.Admits.{op_of, plain_ops}
+use Rattle.volume_state.specs.ClosingLaws.Laws.{close_ops}
 use Rattle.volume_core.specs.Promised.{CanClose}
 use Rattle.volume_core.proofs.Admitted as admitted
-use Rattle.closing_laws.specs.Closing.{IsAtRest}
+use Rattle.volume_state.specs.ClosingLaws.Closing.{IsAtRest}
 use Rattle.volume_core.specs.Commands.{DoesOps}
 use Rattle.volume_core.proofs.Exact.{IsThere}
 use Rattle.volume_core.proofs.Settled.{rests_behind}

@@ -9,7 +9,7 @@ use Rattle.plain_tree.specs.declared.calls.Placed.{Placed}
 use Rattle.space_laws.specs.Space as space
 use Rattle.space_laws.specs.Space.{Ask, Rules, Space, change, first_space, index, nothing, store}
 use Rattle.space_laws.specs.Standing.{Given, Standing, after_placed, ask_of, is_on, rules, standing}
-use Rattle.reply_laws.proofs.Places.{standing_goes_on}
+use Rattle.promises.proofs.ReplyLaws.Places.{standing_goes_on}
 
 -- as long as nothing changed and no index was admitted
 abbrev IsFirst : Space → Space → Type 0

@@ -4,8 +4,8 @@ use Rattle.tape_drive.specs.declared.drive.Drive.{Ghosts}
 use Rattle.session_script.specs.Sessions.{greatest_session}
 use Rattle.cartridge_meaning.specs.declared.mounted.Mounted.{Mounted}
 use Rattle.file_tree.specs.Tree.{FileTree, plain_of}
-use Rattle.serving_promise.specs.Served.{Fixed}
-use Rattle.call_laws.specs.StartLaws.{first_tape}
+use Rattle.promises.specs.ServingPromise.Served.{Fixed}
+use Rattle.volume_state.specs.CallLaws.StartLaws.{first_tape}
 
 -- what no call changes is this, where the volume begins with this drive, mount and tree, for so many calls of so many
 -- sessions

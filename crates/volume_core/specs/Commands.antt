@@ -15,7 +15,7 @@ use Rattle.head_core.specs.Attributes.{IsAttributeCommand}
 use Rattle.head_core.specs.Steps.{IsOpStep}
 use Rattle.head_core.specs.declared.work.StepDone.{StepDone}
 use Rattle.head_core.specs.declared.work.StepDone.TheVariants as outcome
-use Rattle.crash_laws.specs.Changes.{IsWell}
+use Rattle.promises.specs.CrashLaws.Changes.{IsWell}
 
 -- ---- ops
 

@@ -5,9 +5,9 @@ use Rattle.tape_types.specs.declared.cartridges.Part.{Part}
 use Rattle.tape_types.specs.declared.cartridges.Place.{Place}
 use Rattle.session_script.specs.declared.logs.Event.{Event}
 use Rattle.session_script.specs.declared.logs.Event.TheVariants.{Queues, Syncs}
-use Rattle.event_laws.specs.Trail.{after_all, steps, travel}
-use Rattle.event_laws.specs.Waiting.{Op, State, as_number, same_part, with_flushes}
-use Rattle.serving_promise.specs.Ends.{bounded}
+use Rattle.head_queue.specs.EventLaws.Trail.{after_all, steps, travel}
+use Rattle.head_queue.specs.EventLaws.Waiting.{Op, State, as_number, same_part, with_flushes}
+use Rattle.promises.specs.ServingPromise.Ends.{bounded}
 use Rattle.volume_core.specs.declared.costs.Walk.{Walk}
 
 -- so many steps of the head, and so many positions of travel

@@ -8,8 +8,8 @@ use Rattle.tape_layout.specs.declared.ops.Op.{Op}
 use Rattle.head_core.specs.Steps.{IsOpStep}
 use Rattle.head_core.specs.declared.work.StepDone.{StepDone}
 use Rattle.head_core.specs.declared.work.StepDone.TheVariants as outcome
-use Rattle.crash_laws.specs.Changes.{IsWell}
-use Rattle.plan_laws.specs.Planned.{IsOnWay, Items}
+use Rattle.promises.specs.CrashLaws.Changes.{IsWell}
+use Rattle.volume_state.specs.PlanLaws.Planned.{IsOnWay, Items}
 use Rattle.volume_core.specs.Commands.{Lasts}
 use Rattle.volume_core.specs.declared.notes.LastIndexes.{LastIndexes}
 

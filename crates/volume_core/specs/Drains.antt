@@ -3,15 +3,15 @@ use Rattle.std.specs.Prelude.{ℕ, ◌≡◌, ◌≤◌, ◌<◌, ◌==◌, ◌^
 use Rattle.tape_types.specs.declared.moments.Moment.{Moment}
 use Rattle.plain_tree.specs.declared.calls.Placed.{Placed}
 use Rattle.session_script.specs.declared.logs.Event.TheVariants as events
-use Rattle.event_laws.specs.Trail.{allows}
-use Rattle.serving_promise.specs.Faults.{kept_for}
-use Rattle.serving_promise.specs.Marks.{draining, phase, places_of}
-use Rattle.serving_promise.specs.declared.answers.Drained.{Drained}
-use Rattle.serving_promise.specs.declared.answers.Drained.TheVariants as the_drained
+use Rattle.head_queue.specs.EventLaws.Trail.{allows}
+use Rattle.promises.specs.ServingPromise.Faults.{kept_for}
+use Rattle.promises.specs.ServingPromise.Marks.{draining, phase, places_of}
+use Rattle.promises.specs.declared.serving_promise.answers.Drained.{Drained}
+use Rattle.promises.specs.declared.serving_promise.answers.Drained.TheVariants as the_drained
 use Rattle.event_journal.specs.Placements.{Listed}
 use Rattle.event_journal.specs.Trails.{state}
-use Rattle.state_laws.specs.Parts.{Parts}
-use Rattle.call_laws.specs.Draining.{RestsNow, TakesFault}
+use Rattle.volume_state.specs.StateLaws.Parts.{Parts}
+use Rattle.volume_state.specs.CallLaws.Draining.{RestsNow, TakesFault}
 use Rattle.volume_core.specs.Turns.{Gives, Told}
 
 -- a session of the script drains, and its write can be placed

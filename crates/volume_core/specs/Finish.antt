@@ -8,8 +8,8 @@ use Rattle.space_laws.specs.Closing.{is_ip_due}
 use Rattle.space_laws.specs.Standing.{Given, Standing}
 use Rattle.held_volume.specs.Closed.{IsDpDone, IsDpFull, IsIpDone, IsIpFull, closed_dp}
 use Rattle.held_volume.specs.Stocks.{IsStock, Stocked}
-use Rattle.serving_promise.specs.declared.answers.CloseEnd.{CloseEnd}
-use Rattle.serving_promise.specs.declared.answers.CloseEnd.TheVariants as ends
+use Rattle.promises.specs.declared.serving_promise.answers.CloseEnd.{CloseEnd}
+use Rattle.promises.specs.declared.serving_promise.answers.CloseEnd.TheVariants as ends
 use Rattle.volume_core.specs.Commands.{AreOpsDone, EndsWith, Lasts}
 
 -- the index that is due on the data partition was admitted, if one is

@@ -5,8 +5,8 @@ use Rattle.tape_types.specs.declared.moments.Moment.{Moment}
 use Rattle.tape_drive.specs.declared.drive.Drive.{Ghosts}
 use Rattle.session_script.specs.declared.logs.Log.{Log}
 use Rattle.file_tree.specs.Valid.{IsGood}
-use Rattle.serving_promise.specs.declared.answers.CloseEnd.{CloseEnd}
-use Rattle.state_laws.specs.Parts.{Parts}
+use Rattle.promises.specs.declared.serving_promise.answers.CloseEnd.{CloseEnd}
+use Rattle.volume_state.specs.StateLaws.Parts.{Parts}
 use Rattle.volume_core.specs.Costs.{AreCosts}
 use Rattle.volume_core.specs.Finish.{Finishes}
 

@@ -9,3 +9,4 @@ pub mod May
 pub mod Promised
 pub mod Serving
 pub mod Turns
+pub mod VolumeSteps

@@ -11,10 +11,10 @@ use Rattle.tape_drive.specs.declared.drive.Drive.{Ghosts}
 use Rattle.tape_layout.specs.declared.ops.Op.{Op}
 use Rattle.ltfs_label.specs.declared.Label.{Label}
 use Rattle.cartridge_meaning.specs.Notes.{TellsOfLast}
-use Rattle.serving_promise.specs.Served.{View}
-use Rattle.crash_laws.specs.Safe.{Planned}
-use Rattle.closing_laws.specs.Closing.{IsAtRest, IsClosing}
-use Rattle.closing_laws.specs.May.{IsAllowedView}
+use Rattle.promises.specs.ServingPromise.Served.{View}
+use Rattle.promises.specs.CrashLaws.Safe.{Planned}
+use Rattle.volume_state.specs.ClosingLaws.Closing.{IsAtRest, IsClosing}
+use Rattle.volume_state.specs.ClosingLaws.May.{IsAllowedView}
 use Rattle.volume_core.specs.Commands.{DoesOps, Lasts, values_of}
 
 -- both notes may tell of the last indexes, whatever the volume change reference is

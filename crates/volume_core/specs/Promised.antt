@@ -7,19 +7,19 @@ use Rattle.tape_drive.specs.declared.drive.Drive.{Ghosts}
 use Rattle.session_script.specs.Sessions.{greatest_session}
 use Rattle.file_tree.specs.Valid.{IsGood}
 use Rattle.cartridge_meaning.specs.Carried.{carried}
-use Rattle.serving_promise.specs.Crash.{SurvivesCrashes}
-use Rattle.serving_promise.specs.Ends.{IsEnd, TellsNodes}
-use Rattle.serving_promise.specs.Marks.{NothingWaits}
-use Rattle.serving_promise.specs.Meanings.{cartridges}
-use Rattle.serving_promise.specs.Served.{Fixed, View, tree_after}
-use Rattle.serving_promise.specs.declared.answers.CloseEnd.{CloseEnd}
-use Rattle.serving_promise.specs.declared.answers.CloseEnd.TheVariants as ends
-use Rattle.order_laws.specs.Kept.{seen}
-use Rattle.crash_laws.specs.Laws.{CanServe}
-use Rattle.promise_laws.specs.Kept.{CanRead}
-use Rattle.state_laws.specs.Parts.{Parts, view_of}
-use Rattle.closing_laws.specs.Owned.{LeavesOwn}
-use Rattle.call_laws.specs.Running.{IsRunning}
+use Rattle.promises.specs.ServingPromise.Crash.{SurvivesCrashes}
+use Rattle.promises.specs.ServingPromise.Ends.{IsEnd, TellsNodes}
+use Rattle.promises.specs.ServingPromise.Marks.{NothingWaits}
+use Rattle.promises.specs.ServingPromise.Meanings.{cartridges}
+use Rattle.promises.specs.ServingPromise.Served.{Fixed, View, tree_after}
+use Rattle.promises.specs.declared.serving_promise.answers.CloseEnd.{CloseEnd}
+use Rattle.promises.specs.declared.serving_promise.answers.CloseEnd.TheVariants as ends
+use Rattle.promises.specs.OrderLaws.Kept.{seen}
+use Rattle.promises.specs.CrashLaws.Laws.{CanServe}
+use Rattle.promises.specs.PromiseLaws.Kept.{CanRead}
+use Rattle.volume_state.specs.StateLaws.Parts.{Parts, view_of}
+use Rattle.volume_state.specs.ClosingLaws.Owned.{LeavesOwn}
+use Rattle.volume_state.specs.CallLaws.Running.{IsRunning}
 use Rattle.volume_core.specs.Finish.{Finishes}
 
 -- nothing waits in a volume that runs, and the clock gives this moment

@@ -6,10 +6,10 @@ use Rattle.tape_drive.specs.declared.drive.Drive.{Ghosts}
 use Rattle.session_script.specs.declared.scripts.ScriptLine.{ScriptLine}
 use Rattle.cartridge_meaning.specs.declared.mounted.Mounted.{Mounted}
 use Rattle.file_tree.specs.Tree.{FileTree, plain_of}
-use Rattle.serving_promise.specs.Served.{Fixed}
-use Rattle.call_laws.specs.StartLaws.{first_tape}
-use Rattle.state_laws.specs.Parts.{Parts}
-use Rattle.call_laws.specs.Running.{IsRunning}
+use Rattle.promises.specs.ServingPromise.Served.{Fixed}
+use Rattle.volume_state.specs.CallLaws.StartLaws.{first_tape}
+use Rattle.volume_state.specs.StateLaws.Parts.{Parts}
+use Rattle.volume_state.specs.CallLaws.Running.{IsRunning}
 
 -- the moment that a clock gives next: its one moment where it has one, and else what it tells next
 abbrev pub next_moment : Option Moment → Option Moment → Option Moment

@@ -3,17 +3,17 @@ use Rattle.std.specs.Prelude.{ℕ, ◌≡◌, Option, Some, IfSome, length}
 use Rattle.tape_types.specs.declared.moments.Moment.{Moment}
 use Rattle.tape_drive.specs.declared.drive.Drive.{Ghosts}
 use Rattle.plain_tree.specs.declared.calls.Call.{Call}
-use Rattle.serving_promise.specs.Served.{Fixed}
-use Rattle.serving_promise.specs.Marks.{places_of}
-use Rattle.serving_promise.specs.Submits.{CanSubmit, call_of}
-use Rattle.serving_promise.specs.declared.answers.Drained.{Drained}
-use Rattle.serving_promise.specs.declared.answers.Drained.TheVariants as the_drained
-use Rattle.serving_promise.specs.declared.answers.Submitted.{Submitted}
-use Rattle.serving_promise.specs.declared.answers.Submitted.TheVariants as submitted
-use Rattle.state_laws.specs.Parts.{Parts, view_of}
-use Rattle.call_laws.specs.Draining.{DrainsTo}
-use Rattle.call_laws.specs.Running.{IsRunning}
-use Rattle.volume_steps.specs.Asking.{IsSubmitted}
+use Rattle.promises.specs.ServingPromise.Served.{Fixed}
+use Rattle.promises.specs.ServingPromise.Marks.{places_of}
+use Rattle.promises.specs.ServingPromise.Submits.{CanSubmit, call_of}
+use Rattle.promises.specs.declared.serving_promise.answers.Drained.{Drained}
+use Rattle.promises.specs.declared.serving_promise.answers.Drained.TheVariants as the_drained
+use Rattle.promises.specs.declared.serving_promise.answers.Submitted.{Submitted}
+use Rattle.promises.specs.declared.serving_promise.answers.Submitted.TheVariants as submitted
+use Rattle.volume_state.specs.StateLaws.Parts.{Parts, view_of}
+use Rattle.volume_state.specs.CallLaws.Draining.{DrainsTo}
+use Rattle.volume_state.specs.CallLaws.Running.{IsRunning}
+use Rattle.volume_core.specs.VolumeSteps.Asking.{IsSubmitted}
 use Rattle.volume_core.specs.Serving.{next_moment}
 
 -- they are those of a volume that runs

@@ -1,18 +1,18 @@
 //! The close of a volume in which nothing waits.
 
 ghost use Rattle.std.specs.Prelude.{◌≡◌, ◌≤◌, [], true, All, is_some, length, vec_capacity};
-ghost use Rattle.volume_steps.specs.Seen.{seen_parts};
+ghost use Rattle.volume_core.specs.VolumeSteps.Seen.{seen_parts};
 ghost use Rattle.volume_core.specs.Leaving.{IsClosed};
 ghost use Rattle.volume_core.specs.Promised.{IsToClose};
 
 use crate::costs::costs_of;
 use crate::finishing::finish;
 use crate::leaving::take_log;
-use serving_promise::{Closed, Left};
+use crate::volume_steps::Parts;
+use promises::serving_promise::{Closed, Left};
 use session_script::Reply;
 use tape_drive::Drive;
 use tape_types::Moment;
-use volume_steps::Parts;
 
 /// Makes the commands of a close at a moment, and gives back the drive with the log, what that has cost, and how many
 /// nodes the tree has. The replies of the log, which are all there, are moved into a vector that has room for them.

@@ -2,7 +2,7 @@
 
 ghost use Rattle.std.specs.Prelude.{◌≡◌, ◌<◌, ◌≤◌, ◌+◌, ◌-◌, ◌∷◌, ◌++◌, [], ◌^◌, min, length, take, true, None};
 ghost use Rattle.session_script.specs.declared.logs.Event.TheVariants as the_events;
-ghost use Rattle.event_laws.specs.Trail.{IsTrail, after_all, allows};
+ghost use Rattle.head_queue.specs.EventLaws.Trail.{IsTrail, after_all, allows};
 ghost use Rattle.volume_core.specs.Costs.{AreCosts, Goes, IsWalked, apart, is_last, is_queued, stand, to_op};
 
 use session_script::Event;

@@ -3,22 +3,22 @@
 ghost use Rattle.std.specs.Prelude.{◌≡◌, ◌≤◌, ◌<◌, ◌-◌, ◌^◌, ◌∷◌, [], Some, IfNone, IfSome, length};
 ghost use Rattle.plain_tree.specs.declared.calls.Fate.TheVariants as fates;
 ghost use Rattle.session_script.specs.declared.logs.Reply.TheVariants as replies;
-ghost use Rattle.serving_promise.specs.Faults.{kept_for};
-ghost use Rattle.serving_promise.specs.Marks.{draining, phase, places_of};
-ghost use Rattle.serving_promise.specs.declared.answers.Drained.TheVariants as drained;
-ghost use Rattle.call_laws.specs.Draining.{IsFull, RestsNow};
-ghost use Rattle.state_laws.specs.Placing.{PlacesCall};
-ghost use Rattle.volume_steps.specs.Seen.{seen_parts};
+ghost use Rattle.promises.specs.ServingPromise.Faults.{kept_for};
+ghost use Rattle.promises.specs.ServingPromise.Marks.{draining, phase, places_of};
+ghost use Rattle.promises.specs.declared.serving_promise.answers.Drained.TheVariants as drained;
+ghost use Rattle.volume_state.specs.CallLaws.Draining.{IsFull, RestsNow};
+ghost use Rattle.volume_state.specs.StateLaws.Placing.{PlacesCall};
+ghost use Rattle.volume_core.specs.VolumeSteps.Seen.{seen_parts};
 ghost use Rattle.volume_core.specs.Drains.{CanEnd, CanFault, EndsAt};
 ghost use Rattle.volume_core.specs.Turns.{DrainsAt, Runs, told};
 
+use crate::volume_steps::Parts;
 use plain_tree::{Fate, Placed};
-use serving_promise::Drained;
+use promises::serving_promise::Drained;
 use session_script::{Event, Reply};
 use tape_drive::Drive;
 use tape_edge::Clock;
 use tape_types::{Moment, Twin};
-use volume_steps::Parts;
 
 /// How many ops may stand as a write is placed.
 pub const ROOM: u64 = 64;

@@ -3,20 +3,20 @@
 ghost use Rattle.std.specs.Prelude.{◌≡◌, ◌+◌, ◌||◌, not, Option};
 ghost use Rattle.tape_types.specs.declared.moments.Moment.{Moment as Instant};
 ghost use Rattle.tape_layout.specs.Plans.{AreStanding};
-ghost use Rattle.serving_promise.specs.Served.{Fixed};
-ghost use Rattle.volume_steps.specs.Seen.{seen_parts};
+ghost use Rattle.promises.specs.ServingPromise.Served.{Fixed};
+ghost use Rattle.volume_core.specs.VolumeSteps.Seen.{seen_parts};
 ghost use Rattle.volume_core.specs.Doing.{lasts_in};
 ghost use Rattle.volume_core.specs.Finish.{Finishes, close_end, lasts_of, short_end};
 ghost use Rattle.volume_core.specs.Promised.{CanClose};
 
 use crate::commands::{do_ops, end_with};
 use crate::notes::LastIndexes;
+use crate::volume_steps::Parts;
 use held_volume::Stock;
-use serving_promise::CloseEnd;
+use promises::serving_promise::CloseEnd;
 use tape_drive::Drive;
 use tape_layout::AdmitErr;
 use tape_types::{Moment, Twin};
-use volume_steps::Parts;
 
 /// Closes a volume at a moment: the index that is due on each partition is admitted, all ops are done, and the notes
 /// tell of the last indexes, where one went to the index partition or they weren't right at the mount. A command that

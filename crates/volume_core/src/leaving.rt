@@ -1,13 +1,13 @@
 //! What is left of a volume in which nothing waits.
 
 ghost use Rattle.std.specs.Prelude.{◌≡◌, ◌≤◌, [], true, All, is_some, length, vec_capacity};
-ghost use Rattle.volume_steps.specs.Seen.{seen_parts};
+ghost use Rattle.volume_core.specs.VolumeSteps.Seen.{seen_parts};
 ghost use Rattle.volume_core.specs.Leaving.{IsLeft};
 
-use serving_promise::Left;
+use crate::volume_steps::Parts;
+use promises::serving_promise::Left;
 use session_script::{Log, Reply};
 use tape_drive::Drive;
-use volume_steps::Parts;
 
 /// The drive, and the log of all calls, whose replies are all there. These are moved into a vector that has room for
 /// them.

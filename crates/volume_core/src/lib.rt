@@ -13,5 +13,6 @@ mod starting;
 mod submitting;
 mod turning;
 mod volume;
+pub mod volume_steps;
 
 pub use volume::Volume;

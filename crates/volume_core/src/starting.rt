@@ -3,11 +3,12 @@
 ghost use Rattle.std.specs.Prelude.{◌≡◌, IfErr, IfOk};
 ghost use Rattle.tape_types.specs.Cartridges.{IsLimits};
 ghost use Rattle.cartridge_meaning.specs.Mounts.{IsMount};
-ghost use Rattle.serving_promise.specs.Served.{Fixed};
-ghost use Rattle.call_laws.specs.StartLaws.{IsFresh};
-ghost use Rattle.volume_steps.specs.Seen.{seen_parts};
+ghost use Rattle.promises.specs.ServingPromise.Served.{Fixed};
+ghost use Rattle.volume_state.specs.CallLaws.StartLaws.{IsFresh};
+ghost use Rattle.volume_core.specs.VolumeSteps.Seen.{seen_parts};
 ghost use Rattle.volume_core.specs.Beginning.{BeginsWith};
 
+use crate::volume_steps::Parts;
 use block_cache::BlockCache;
 use cartridge_meaning::Mounted;
 use event_journal::{Placements, Trail};
@@ -16,7 +17,6 @@ use head_queue::Queue;
 use held_volume::Stock;
 use std::alloc::Global;
 use tape_drive::Drive;
-use volume_steps::Parts;
 use waiting_reads::Readings;
 
 /// The parts of a volume that was mounted, with room for so many calls of so many sessions. A refusal, which is for

@@ -2,28 +2,28 @@
 
 ghost use Rattle.std.specs.Prelude.{◌≡◌, ◌≢◌, ◌⊎◌, ◌&&◌, ◌<◌, nat_lt, length, true};
 ghost use Rattle.file_tree.specs.Valid.{IsGood};
-ghost use Rattle.event_laws.specs.Trail.{allows};
+ghost use Rattle.head_queue.specs.EventLaws.Trail.{allows};
 ghost use Rattle.plain_tree.specs.declared.calls.Call.{Call as Asks};
 ghost use Rattle.session_script.specs.declared.logs.Event.TheVariants as events;
 ghost use Rattle.session_script.specs.declared.logs.Reply.TheVariants as replies;
 ghost use Rattle.event_journal.specs.Trails.{state};
-ghost use Rattle.serving_promise.specs.Replies.{is_write};
-ghost use Rattle.serving_promise.specs.Submits.{PutsOff};
-ghost use Rattle.serving_promise.specs.declared.answers.Submitted.TheVariants as submitted;
-ghost use Rattle.volume_steps.specs.Asking.{CanAsk, IsSubmitted, Stands};
-ghost use Rattle.volume_steps.specs.Seen.{seen_parts};
-ghost use Rattle.volume_steps.specs.Wanted.{CanWantBlocks};
+ghost use Rattle.promises.specs.ServingPromise.Replies.{is_write};
+ghost use Rattle.promises.specs.ServingPromise.Submits.{PutsOff};
+ghost use Rattle.promises.specs.declared.serving_promise.answers.Submitted.TheVariants as submitted;
+ghost use Rattle.volume_core.specs.VolumeSteps.Asking.{CanAsk, IsSubmitted, Stands};
+ghost use Rattle.volume_core.specs.VolumeSteps.Seen.{seen_parts};
+ghost use Rattle.volume_core.specs.VolumeSteps.Wanted.{CanWantBlocks};
 ghost use Rattle.volume_core.specs.Turns.{Gives, RunsFor, SubmitsAt, told};
 
 use crate::draining::ROOM;
+use crate::volume_steps::{Asked, Parts};
 use plain_tree::{Call, Change};
-use serving_promise::Submitted;
+use promises::serving_promise::Submitted;
 use std::alloc::Global;
 use tape_drive::Drive;
 use tape_edge::Clock;
 use tape_layout::AdmitErr;
 use tape_types::{Moment, NoMemory};
-use volume_steps::{Asked, Parts};
 
 /// Places the next call of a session, or puts it off.
 pub fn submit<D: Drive, C: Clock>(

@@ -1,14 +1,14 @@
 //! Turns of a session that waits for a reply.
 
 ghost use Rattle.std.specs.Prelude.{◌≡◌, ◌≤◌, ◌-◌, ◌^◌, ℕ};
-ghost use Rattle.serving_promise.specs.Marks.{phase, waits};
-ghost use Rattle.call_laws.specs.Handing.{TurnsTo};
-ghost use Rattle.volume_steps.specs.Seen.{seen_parts};
+ghost use Rattle.promises.specs.ServingPromise.Marks.{phase, waits};
+ghost use Rattle.volume_state.specs.CallLaws.Handing.{TurnsTo};
+ghost use Rattle.volume_core.specs.VolumeSteps.Seen.{seen_parts};
 ghost use Rattle.volume_core.specs.Turns.{Runs};
 
-use serving_promise::Turn;
+use crate::volume_steps::Parts;
+use promises::serving_promise::Turn;
 use tape_drive::Drive;
-use volume_steps::Parts;
 
 /// Hands out the reply of a place, after a step of the head where it isn't there.
 pub fn turn<D: Drive>(parts: &mut Parts<D>, ticket: u64) -> Turn

@@ -4,16 +4,16 @@ ghost use Rattle.std.specs.Prelude.{◌≡◌, ◌≤◌, ◌+◌, ◌-◌, ℕ,
 ghost use Rattle.session_script.specs.Grammar.{calls_of};
 ghost use Rattle.session_script.specs.Sessions.{greatest_session};
 ghost use Rattle.cartridge_meaning.specs.Mounts.{IsMount, Mounts};
-ghost use Rattle.serving_promise.specs.Ends.{Closes, Parts as LeavesApart, Starts};
-ghost use Rattle.serving_promise.specs.Marks.{NothingWaits, draining, phase, waits};
-ghost use Rattle.serving_promise.specs.Meanings.{cartridges};
-ghost use Rattle.serving_promise.specs.Served.{IsServed};
-ghost use Rattle.serving_promise.specs.Steps.{DrainsOnce, Turns};
-ghost use Rattle.serving_promise.specs.Submits.{CanSubmit, Submits};
-ghost use Rattle.order_laws.specs.Kept.{seen};
-ghost use Rattle.crash_laws.specs.May.{MayStart};
-ghost use Rattle.log_laws.specs.Acts.{Moves};
-ghost use Rattle.log_laws.specs.Loads.{load_of, taken_by, taken_by_drain};
+ghost use Rattle.promises.specs.ServingPromise.Ends.{Closes, Parts as LeavesApart, Starts};
+ghost use Rattle.promises.specs.ServingPromise.Marks.{NothingWaits, draining, phase, waits};
+ghost use Rattle.promises.specs.ServingPromise.Meanings.{cartridges};
+ghost use Rattle.promises.specs.ServingPromise.Served.{IsServed};
+ghost use Rattle.promises.specs.ServingPromise.Steps.{DrainsOnce, Turns};
+ghost use Rattle.promises.specs.ServingPromise.Submits.{CanSubmit, Submits};
+ghost use Rattle.promises.specs.OrderLaws.Kept.{seen};
+ghost use Rattle.promises.specs.CrashLaws.May.{MayStart};
+ghost use Rattle.run_laws.specs.LogLaws.Acts.{Moves};
+ghost use Rattle.run_laws.specs.LogLaws.Loads.{load_of, taken_by, taken_by_drain};
 ghost use Rattle.volume_core.specs.Promised.{LeavesOwnIndexes};
 ghost use Rattle.volume_core.specs.Serving.{next_moment};
 
@@ -23,17 +23,17 @@ use crate::laws::closes_end;
 use crate::starting::begin;
 use crate::submitting::{ask, submit};
 use crate::turning::turn;
+use crate::volume_steps::Parts;
 use cartridge_meaning::Mounted;
 use held_volume::Stock;
 use plain_tree::Call;
-use serving_promise::{Closed, Drained, Kept, Submitted, Turn};
+use promises::serving_promise::{Closed, Drained, Kept, Submitted, Turn};
 use session_script::{Reply, Script};
 use std::alloc::Global;
 use std::marker::Model;
 use std::snapshot::Snapshot;
 use tape_drive::Drive;
 use tape_edge::Clock;
-use volume_steps::Parts;
 
 /// A volume while its sessions are served. Contracts see its history, what was told to each session, and what the drive
 /// holds.
@@ -60,9 +60,9 @@ impl<D: Drive, C: Clock> Model for Volume<D, C> {
     ghost use Rattle.std.specs.Coded.{codes, coded_list, coded_ℕ};
     ghost use Rattle.plain_tree.specs.Paths.{path_cmp};
     ghost use Rattle.plain_tree.specs.contracts.nodes.Node as node;
-    ghost use Rattle.serving_promise.specs.Served.{View};
-    ghost use Rattle.state_laws.specs.Parts.{view_of};
-    ghost use Rattle.volume_steps.specs.Seen.{seen_parts};
+    ghost use Rattle.promises.specs.ServingPromise.Served.{View};
+    ghost use Rattle.volume_state.specs.StateLaws.Parts.{view_of};
+    ghost use Rattle.volume_core.specs.VolumeSteps.Seen.{seen_parts};
     ghost use Rattle.volume_core.specs.Serving.{IsServing, fixed_of, next_moment};
 
     ghost Value = { View D };

@@ -1,6 +1,6 @@
 use Rattle.std.proofs.Common.{◌≡◌, drop, map}
-use Rattle.event_laws.specs.Waiting.{first_of}
-use Rattle.serving_promise.specs.Faults.{kept_for}
+use Rattle.head_queue.specs.EventLaws.Waiting.{first_of}
+use Rattle.promises.specs.ServingPromise.Faults.{kept_for}
 use Rattle.event_journal.specs.Trails.{kept_as}
 use Rattle.event_journal.proofs.trails.fault_for.Given as goal
 

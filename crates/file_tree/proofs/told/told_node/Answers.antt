@@ -1,7 +1,7 @@
 use Rattle.std.proofs.Common.{◌≡◌, List, ap, ◌∙◌}
-use Rattle.node_keys.specs.declared.xattrs.Xattr.{Xattr}
-use Rattle.node_keys.specs.Keys.{list_of}
-use Rattle.node_keys.proofs.ListLaws.{is_list}
+use Rattle.tape_types.specs.declared.node_keys.xattrs.Xattr.{Xattr}
+use Rattle.tape_types.specs.NodeKeys.Keys.{list_of}
+use Rattle.tape_types.proofs.NodeKeys.ListLaws.{is_list}
 use Rattle.file_tree.specs.Told.{told_node_of}
 use Rattle.file_tree.proofs.told.told_node.Goals as goal
 

@@ -1,6 +1,6 @@
 use Rattle.std.proofs.Common.{List, [], ◌∷◌, ◌+◌, map, length}
 use Rattle.std.proofs.lemmas.Result.{on_ok_weaker}
-use Rattle.index_construct.specs.Blocks.{blocks_of}
+use Rattle.tape_layout.specs.IndexConstruct.Blocks.{blocks_of}
 use Rattle.tape_types.specs.declared.cartridges.Item.{Item}
 use Rattle.tape_types.specs.declared.cartridges.Item.TheVariants.{Block, Mark}
 use Rattle.format_volume.proofs.WriteLemmas.{construct_room, then_written}

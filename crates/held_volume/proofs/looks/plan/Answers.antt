@@ -6,7 +6,7 @@ use Rattle.extent_map.specs.Replies.{size_of}
 use Rattle.plain_tree.specs.Cells.{range_of}
 use Rattle.tape_layout.specs.Plans.{Plan}
 use Rattle.space_laws.specs.Standing.{Given, Standing}
-use Rattle.volume_sync.specs.declared.frames.Frame.{Frame}
+use Rattle.held_volume.specs.declared.volume_sync.frames.Frame.{Frame}
 use Rattle.file_tree.proofs.CallLemmas.{file_there}
 use Rattle.file_tree.proofs.RefusalLemmas.{whole_read}
 use Rattle.plain_tree.specs.Paths.{Path}

@@ -1,7 +1,7 @@
 use Rattle.std.proofs.Common.{rules, ◌<◌, vec_len, sym, ap, ◌∙◌, Some}
 use Rattle.std.proofs.lemmas.Option.{slice_get-get_or}
-use Rattle.doc_elements.specs.Elements.{plain}
-use Rattle.doc_elements.specs.Answers.{val_of}
+use Rattle.ltfs_documents.specs.DocElements.Elements.{plain}
+use Rattle.ltfs_documents.specs.DocElements.Answers.{val_of}
 use Rattle.index_read.specs.Told.{node_with}
 use Rattle.index_read.proofs.Changes.{changed_set, changed_none}
 use Rattle.index_read.proofs.drafts.tell_node.Goals as goal

@@ -1,7 +1,7 @@
 use Rattle.std.proofs.Common.{◌≡◌, rules, ◌<◌, vec_len, List, ◌++◌, ◌∷◌, [], sym, ap, ◌∙◌, Some}
 use Rattle.std.proofs.lemmas.Option.{slice_get-get_or}
 use Rattle.std.proofs.lemmas.Result.{on_ok_weaker}
-use Rattle.node_keys.specs.declared.xattrs.Xattr.{Xattr}
+use Rattle.tape_types.specs.declared.node_keys.xattrs.Xattr.{Xattr}
 use Rattle.index_model.specs.Values.{value_in, facts_of}
 use Rattle.index_read.specs.Told.{with_xattr}
 use Rattle.index_read.proofs.Changes.{changed_set, changed_none}

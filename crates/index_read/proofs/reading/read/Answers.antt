@@ -1,12 +1,12 @@
 use Rattle.std.proofs.Common.{rules, ◌≡◌, ℕ, List, length, IsUtf8, IfSome, inl, inr, refl, sym, subst, ◌∙◌}
-use Rattle.doc_elements.specs.declared.schema.Container.TheVariants as place
-use Rattle.doc_elements.specs.Documents.{Halts}
+use Rattle.ltfs_documents.specs.declared.doc_elements.schema.Container.TheVariants as place
+use Rattle.ltfs_documents.specs.DocElements.Documents.{Halts}
 use Rattle.index_model.specs.declared.errors.IndexErr.{IndexErr}
 use Rattle.index_model.specs.Documents.{refusal_told}
 use Rattle.index_model.specs.Refusals.{IsToldOf}
 use Rattle.index_read.specs.Drafts.{state_of}
 use Rattle.index_read.specs.Walks.{IsFaulty, IsReadAs, IsRefused, IsWhole}
-use Rattle.doc_elements.proofs.Whole.{readable_all}
+use Rattle.ltfs_documents.proofs.DocElements.Whole.{readable_all}
 use Rattle.index_read.specs.Answers.{UnlessMemory}
 use Rattle.index_read.proofs.Whole.{unless_always, unless_told}
 use Rattle.index_read.proofs.reading.read.Goals as goal

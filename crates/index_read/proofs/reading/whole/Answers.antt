@@ -1,7 +1,7 @@
 use Rattle.std.proofs.Common.{◌≡◌, Ok, Err, sym, ◌∙◌}
-use Rattle.doc_elements.specs.declared.schema.Container.TheVariants as place
-use Rattle.doc_elements.specs.Documents.{Halted, Halts, at_head, head_of}
-use Rattle.doc_elements.proofs.Whole.{halted_halts, unless_always, unless_map}
+use Rattle.ltfs_documents.specs.declared.doc_elements.schema.Container.TheVariants as place
+use Rattle.ltfs_documents.specs.DocElements.Documents.{Halted, Halts, at_head, head_of}
+use Rattle.ltfs_documents.proofs.DocElements.Whole.{halted_halts, unless_always, unless_map}
 use Rattle.index_read.proofs.Whole.{walked_halts}
 use Rattle.index_read.proofs.reading.whole.Goals as goal
 

@@ -1,16 +1,16 @@
 use Rattle.std.proofs.Common.{rules, ◌≡◌, ℕ, [], ◌∷◌, ◌++◌, map, length, Ok, refl, sym, ap, subst, ◌∙◌, arith}
 use Rattle.std.proofs.lemmas.List.{length-map}
-use Rattle.doc_elements.specs.declared.children.Children.{Children}
-use Rattle.doc_elements.specs.declared.schema.Container.TheVariants as place
-use Rattle.doc_elements.specs.Documents.{fresh}
+use Rattle.ltfs_documents.specs.declared.doc_elements.children.Children.{Children}
+use Rattle.ltfs_documents.specs.declared.doc_elements.schema.Container.TheVariants as place
+use Rattle.ltfs_documents.specs.DocElements.Documents.{fresh}
 use Rattle.index_model.specs.Values.{value_of}
 use Rattle.index_read.specs.declared.walking.Level as code_level
-use Rattle.doc_elements.specs.Answers.{HasRoom, piece_of}
+use Rattle.ltfs_documents.specs.DocElements.Answers.{HasRoom, piece_of}
 use Rattle.index_read.specs.Drafts.{state_of}
 use Rattle.index_read.specs.Told.{State, Level, piece_told}
 use Rattle.index_read.specs.Walks.{level_in, level_of, opened_after}
 use Rattle.index_read.proofs.Steps.{halted_at, is_kept, reaches_next, tells_next, few_next, is_walked, at_top}
-use Rattle.doc_elements.proofs.Steps.{point}
+use Rattle.ltfs_documents.proofs.DocElements.Steps.{point}
 use Rattle.index_read.proofs.walking.walk.Goals as goal
 
 pub loop-at-init : goal.loop-at-init

@@ -2,7 +2,7 @@ use Rattle.std.proofs.Common.{◌≡◌, ◌++◌}
 use Rattle.std.specs.Slice.Iter.{chunks_rest, chunks_size}
 use Rattle.base64.specs.Engines.{standard}
 use Rattle.base64.specs.GeneralPurpose.{encode_of}
-use Rattle.doc_fields.specs.Written.{Keeps}
+use Rattle.ltfs_documents.specs.DocFields.Written.{Keeps}
 use Rattle.index_write.proofs.attributes.put_symbols.Given as goal
 
 abbrev pub invariant-loop-piece : goal.invariant-loop-piece

@@ -1,5 +1,5 @@
 use Rattle.std.proofs.Common.{◌++◌, ◌∙◌, ap}
-use Rattle.node_keys.specs.declared.xattrs.Xattr.{Xattr}
+use Rattle.tape_types.specs.declared.node_keys.xattrs.Xattr.{Xattr}
 use Rattle.index_model.specs.Canonical.{xattr}
 use Rattle.index_write.proofs.Assembled.{join, one_more, told}
 use Rattle.index_write.proofs.attributes.put_xattrs.Goals as goal

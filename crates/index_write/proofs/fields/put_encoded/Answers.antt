@@ -1,9 +1,9 @@
 use Rattle.std.proofs.Common.{rules, ◌≡◌, ◌++◌, ◌∙◌, List, ℕ, [], sym, ap, append-nil}
 use Rattle.percent_encoding.specs.Iter.{encoded_text}
 use Rattle.percent_encoding.specs.Percent.{percent_encode}
-use Rattle.doc_fields.specs.Written.{escape}
-use Rattle.ltfs_text.proofs.Texts.{encodes_as}
-use Rattle.ltfs_text.specs.declared.names.TheConstants.{ESCAPED}
+use Rattle.ltfs_documents.specs.DocFields.Written.{escape}
+use Rattle.ltfs_documents.proofs.LtfsText.Texts.{encodes_as}
+use Rattle.ltfs_documents.specs.declared.ltfs_text.names.TheConstants.{ESCAPED}
 use Rattle.index_write.proofs.fields.put_encoded.Goals as goal
 
 pub loop-piece-init : goal.loop-piece-init

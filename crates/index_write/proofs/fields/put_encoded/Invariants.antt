@@ -1,7 +1,7 @@
 use Rattle.std.proofs.Common.{◌≡◌, ◌++◌}
 use Rattle.percent_encoding.specs.Iter.{encoded_text}
-use Rattle.ltfs_text.specs.Names.{encoded}
-use Rattle.doc_fields.specs.Written.{escape, Keeps}
+use Rattle.ltfs_documents.specs.LtfsText.Names.{encoded}
+use Rattle.ltfs_documents.specs.DocFields.Written.{escape, Keeps}
 use Rattle.index_write.proofs.fields.put_encoded.Given as goal
 
 abbrev pub invariant-loop-piece : goal.invariant-loop-piece

@@ -1,8 +1,8 @@
 use Rattle.std.proofs.Common.{◌≡◌, ◌+◌, ◌-◌, ◌^◌, ◌≤◌, length}
 use Rattle.percent_encoding.specs.Iter.{encoded_text}
 use Rattle.percent_encoding.specs.Percent.{percent_encode}
-use Rattle.ltfs_text.specs.declared.names.TheConstants.{ESCAPED}
-use Rattle.doc_fields.specs.Written.{escape}
+use Rattle.ltfs_documents.specs.declared.ltfs_text.names.TheConstants.{ESCAPED}
+use Rattle.ltfs_documents.specs.DocFields.Written.{escape}
 use Rattle.index_write.specs.Sizes.{bounded, size}
 use Rattle.index_write.proofs.lengths.encoded_len.Given as goal
 

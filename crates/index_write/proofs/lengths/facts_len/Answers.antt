@@ -1,6 +1,6 @@
 use Rattle.std.proofs.Common.{List, ℕ, ◌∙◌, ap}
-use Rattle.doc_fields.specs.declared.tags.Tag.TheVariants.{Name}
-use Rattle.node_keys.specs.declared.xattrs.Xattr.{Xattr}
+use Rattle.ltfs_documents.specs.declared.doc_fields.tags.Tag.TheVariants.{Name}
+use Rattle.tape_types.specs.declared.node_keys.xattrs.Xattr.{Xattr}
 use Rattle.index_model.specs.Canonical.{attributes, name}
 use Rattle.index_model.specs.Values.{facts_of}
 use Rattle.index_write.specs.Sizes.{size}

@@ -1,5 +1,5 @@
 use Rattle.std.proofs.Common.{List, ℕ, ◌∙◌, ap}
-use Rattle.doc_fields.specs.Written.{escape}
+use Rattle.ltfs_documents.specs.DocFields.Written.{escape}
 use Rattle.index_write.specs.Sizes.{size}
 use Rattle.index_model.specs.Values.{volume_of}
 use Rattle.index_write.proofs.SizeLemmas.{front_total}

@@ -1,6 +1,6 @@
 use Rattle.std.proofs.Common.{List, ℕ, ◌∙◌, ap, length}
 use Rattle.std.specs.Fmt.{decimal}
-use Rattle.doc_fields.specs.declared.tags.Tag.TheVariants.{Symlink}
+use Rattle.ltfs_documents.specs.declared.doc_fields.tags.Tag.TheVariants.{Symlink}
 use Rattle.index_model.specs.Canonical.{name}
 use Rattle.index_model.specs.Values.{facts_of}
 use Rattle.index_write.specs.Sizes.{size}

@@ -1,6 +1,6 @@
 use Rattle.std.proofs.Common.{◌≡◌, take}
 use Rattle.std.specs.List.{flat_map}
-use Rattle.doc_fields.specs.declared.tags.Tag.TheVariants.{Name}
+use Rattle.ltfs_documents.specs.declared.doc_fields.tags.Tag.TheVariants.{Name}
 use Rattle.index_model.specs.Canonical.{name}
 use Rattle.index_write.specs.Sizes.{size}
 use Rattle.index_write.proofs.lengths.patterns_len.Given as goal

@@ -1,5 +1,5 @@
 use Rattle.std.proofs.Common.{◌≡◌, ◌<◌, ◌≤◌, ℕ, List, length}
-use Rattle.doc_fields.specs.Written.{Keeps}
+use Rattle.ltfs_documents.specs.DocFields.Written.{Keeps}
 use Rattle.index_write.specs.Rests.{Goes, Rests, parent_at}
 use Rattle.index_write.proofs.nodes.close_to.Given as goal
 

@@ -1,5 +1,5 @@
 use Rattle.std.proofs.Common.{◌≡◌, ◌++◌}
-use Rattle.doc_fields.specs.Written.{Keeps}
+use Rattle.ltfs_documents.specs.DocFields.Written.{Keeps}
 use Rattle.index_write.specs.Rests.{closings}
 use Rattle.index_write.proofs.nodes.put_ends.Given as goal
 

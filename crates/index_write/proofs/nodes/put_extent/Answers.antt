@@ -1,6 +1,6 @@
 use Rattle.std.proofs.Common.{codes, ◌++◌}
 use Rattle.std.specs.Fmt.{decimal}
-use Rattle.doc_fields.specs.declared.tags.Tag.TheVariants.{FileOffset, Partition, StartBlock, ByteOffset}
+use Rattle.ltfs_documents.specs.declared.doc_fields.tags.Tag.TheVariants.{FileOffset, Partition, StartBlock, ByteOffset}
 use Rattle.index_model.specs.Canonical.{letter, number}
 use Rattle.index_write.proofs.Assembled.{ok5, err5, joined}
 use Rattle.index_write.proofs.nodes.put_extent.Goals as goal

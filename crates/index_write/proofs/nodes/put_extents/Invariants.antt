@@ -1,6 +1,6 @@
 use Rattle.std.proofs.Common.{◌≡◌, ◌++◌, take}
 use Rattle.std.specs.List.{flat_map}
-use Rattle.doc_fields.specs.Written.{Keeps}
+use Rattle.ltfs_documents.specs.DocFields.Written.{Keeps}
 use Rattle.index_model.specs.Canonical.{extent}
 use Rattle.index_write.proofs.nodes.put_extents.Given as goal
 

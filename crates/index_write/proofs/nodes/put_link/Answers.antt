@@ -1,5 +1,5 @@
 use Rattle.std.proofs.Common.{refl, length, List, ℕ, ◌++◌, ◌∙◌, ap}
-use Rattle.doc_fields.specs.declared.tags.Tag.TheVariants.{Symlink}
+use Rattle.ltfs_documents.specs.declared.doc_fields.tags.Tag.TheVariants.{Symlink}
 use Rattle.index_model.specs.Canonical.{name}
 use Rattle.index_model.specs.Values.{facts_of}
 use Rattle.index_write.specs.Parts.{file_start}

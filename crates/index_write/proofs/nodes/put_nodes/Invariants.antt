@@ -1,5 +1,5 @@
 use Rattle.std.proofs.Common.{◌≡◌, ◌<◌, map}
-use Rattle.doc_fields.specs.Written.{Keeps}
+use Rattle.ltfs_documents.specs.DocFields.Written.{Keeps}
 use Rattle.index_model.specs.Values.{IndexValue, all_nodes, value_of}
 use Rattle.index_write.specs.Parts.{tree_text}
 use Rattle.index_write.specs.Rests.{Goes}

@@ -1,5 +1,5 @@
 use Rattle.std.proofs.Common.{List, ℕ, ◌++◌, ◌∙◌, ap, refl}
-use Rattle.doc_fields.specs.declared.tags.Tag.TheVariants.{Name}
+use Rattle.ltfs_documents.specs.declared.doc_fields.tags.Tag.TheVariants.{Name}
 use Rattle.index_model.specs.Canonical.{name}
 use Rattle.index_write.specs.Parts.{opening}
 use Rattle.index_write.proofs.Assembled.{ok4, err4}

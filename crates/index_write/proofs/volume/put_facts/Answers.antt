@@ -1,5 +1,5 @@
 use Rattle.std.proofs.Common.{List, ℕ, ◌++◌, ◌∙◌, ap, refl}
-use Rattle.doc_fields.specs.declared.tags.Tag.TheVariants.{Creator}
+use Rattle.ltfs_documents.specs.declared.doc_fields.tags.Tag.TheVariants.{Creator}
 use Rattle.index_model.specs.Canonical.{words}
 use Rattle.index_write.specs.Parts.{volume_front}
 use Rattle.index_write.proofs.Assembled.{ok5, err5}

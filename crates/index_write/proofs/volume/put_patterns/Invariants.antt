@@ -1,7 +1,7 @@
 use Rattle.std.proofs.Common.{◌≡◌, ◌++◌, take}
 use Rattle.std.specs.List.{flat_map}
-use Rattle.doc_fields.specs.Written.{Keeps}
-use Rattle.doc_fields.specs.declared.tags.Tag.TheVariants.{Name}
+use Rattle.ltfs_documents.specs.DocFields.Written.{Keeps}
+use Rattle.ltfs_documents.specs.declared.doc_fields.tags.Tag.TheVariants.{Name}
 use Rattle.index_model.specs.Canonical.{name}
 use Rattle.index_write.proofs.volume.put_patterns.Given as goal
 

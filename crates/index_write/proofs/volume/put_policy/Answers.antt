@@ -1,6 +1,6 @@
 use Rattle.std.proofs.Common.{codes}
 use Rattle.std.specs.List.{flat_map}
-use Rattle.doc_fields.specs.declared.tags.Tag.TheVariants.{Name, Size}
+use Rattle.ltfs_documents.specs.declared.doc_fields.tags.Tag.TheVariants.{Name, Size}
 use Rattle.index_model.specs.Canonical.{name, number}
 use Rattle.index_write.proofs.Assembled.{ok4, policy_joined}
 use Rattle.index_write.proofs.volume.put_policy.Goals as goal

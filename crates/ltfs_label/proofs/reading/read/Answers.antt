@@ -1,5 +1,5 @@
 use Rattle.std.proofs.Common.{rules, ◌≡◌, length, IsUtf8, subst, ◌∙◌}
-use Rattle.doc_elements.proofs.Whole.{readable_all}
+use Rattle.ltfs_documents.proofs.DocElements.Whole.{readable_all}
 use Rattle.ltfs_label.specs.Reading.{Reads}
 use Rattle.ltfs_label.specs.Values.{label_of}
 use Rattle.ltfs_label.proofs.Places.{halts_told}

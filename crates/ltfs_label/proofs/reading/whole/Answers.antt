@@ -1,8 +1,8 @@
 use Rattle.std.proofs.Common.{◌≡◌, ℕ, Ok, Err, refl, sym, subst, ◌∙◌}
-use Rattle.doc_elements.specs.declared.errors.PieceErr.TheVariants as pieces
-use Rattle.doc_elements.specs.declared.schema.Container.TheVariants as place
-use Rattle.doc_elements.specs.Documents.{Halted, Halts, at_end, at_head, head_of}
-use Rattle.doc_elements.proofs.Whole.{halted_halts, unless_always, unless_map}
+use Rattle.ltfs_documents.specs.declared.doc_elements.errors.PieceErr.TheVariants as pieces
+use Rattle.ltfs_documents.specs.declared.doc_elements.schema.Container.TheVariants as place
+use Rattle.ltfs_documents.specs.DocElements.Documents.{Halted, Halts, at_end, at_head, head_of}
+use Rattle.ltfs_documents.proofs.DocElements.Whole.{halted_halts, unless_always, unless_map}
 use Rattle.ltfs_label.proofs.reading.whole.Goals as goal
 
 pub returns-in-Err-clause-refused : goal.returns-in-Err-clause-refused

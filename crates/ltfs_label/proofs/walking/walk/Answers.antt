@@ -1,11 +1,11 @@
 use Rattle.std.proofs.Common.{ℕ, List, [], ◌∷◌, ◌++◌, ◌≡◌, ◌≤◌, Bool, true, false, length, Ok, refl, sym, ap, ◌∙◌, arith}
-use Rattle.doc_elements.specs.declared.children.Children.{Children}
-use Rattle.doc_elements.specs.declared.pieces.Frame as code_frame
-use Rattle.doc_elements.specs.declared.schema.Container.TheVariants as place
-use Rattle.doc_elements.specs.Answers.{piece_of}
-use Rattle.doc_elements.specs.Documents.{after, Reaches, fresh}
-use Rattle.doc_elements.specs.Pieces.{Piece, Frame}
-use Rattle.doc_elements.proofs.Steps.{point}
+use Rattle.ltfs_documents.specs.declared.doc_elements.children.Children.{Children}
+use Rattle.ltfs_documents.specs.declared.doc_elements.pieces.Frame as code_frame
+use Rattle.ltfs_documents.specs.declared.doc_elements.schema.Container.TheVariants as place
+use Rattle.ltfs_documents.specs.DocElements.Answers.{piece_of}
+use Rattle.ltfs_documents.specs.DocElements.Documents.{after, Reaches, fresh}
+use Rattle.ltfs_documents.specs.DocElements.Pieces.{Piece, Frame}
+use Rattle.ltfs_documents.proofs.DocElements.Steps.{point}
 use Rattle.ltfs_label.specs.Reading.{Keeps, value_from}
 use Rattle.ltfs_label.specs.Values.{LabelValue, label_of, blank}
 use Rattle.ltfs_label.proofs.Places.{piece_fits, reached_top}

@@ -1,8 +1,8 @@
 use Rattle.std.proofs.Common.{ℕ, List, [], ◌∷◌, ◌≡◌, ◌≤◌, ◌-◌, ◌+◌, length}
-use Rattle.doc_elements.specs.declared.pieces.Frame as code_frame
-use Rattle.doc_elements.specs.declared.schema.Container.TheVariants as place
-use Rattle.doc_elements.specs.Documents.{Reaches, fresh}
-use Rattle.doc_elements.specs.Pieces.{Piece, Frame}
+use Rattle.ltfs_documents.specs.declared.doc_elements.pieces.Frame as code_frame
+use Rattle.ltfs_documents.specs.declared.doc_elements.schema.Container.TheVariants as place
+use Rattle.ltfs_documents.specs.DocElements.Documents.{Reaches, fresh}
+use Rattle.ltfs_documents.specs.DocElements.Pieces.{Piece, Frame}
 use Rattle.ltfs_label.specs.Reading.{coded, stacked, value_from}
 use Rattle.ltfs_label.specs.Values.{LabelValue, label_of, blank}
 use Rattle.ltfs_label.proofs.walking.walk.Given as goal

@@ -1,7 +1,7 @@
 use Rattle.std.proofs.Common.{◌∙◌, ◌++◌, List, ℕ, ap}
-use Rattle.doc_fields.specs.declared.tags.Tag.TheVariants.{Creator}
+use Rattle.ltfs_documents.specs.declared.doc_fields.tags.Tag.TheVariants.{Creator}
 use Rattle.ltfs_label.specs.Canonical.{leaf_text}
-use Rattle.doc_elements.specs.Pieces.{words}
+use Rattle.ltfs_documents.specs.DocElements.Pieces.{words}
 use Rattle.ltfs_label.proofs.Assembled.{seven}
 use Rattle.ltfs_label.proofs.writing.put_children.Goals as goal
 

@@ -1,5 +1,5 @@
 use Rattle.std.proofs.Common.{◌≡◌, take}
-use Rattle.serving_promise.specs.Ends.{bounded}
+use Rattle.promises.specs.ServingPromise.Ends.{bounded}
 use Rattle.ltfs_server.specs.Making.{bytes_read}
 use Rattle.ltfs_server.proofs.making.bytes_read.Given as goal
 

@@ -1,9 +1,9 @@
 use Rattle.std.proofs.Common.{List, subst, sym, arith}
 use Rattle.session_script.specs.declared.scripts.ScriptLine.{ScriptLine}
-use Rattle.basic_commands.specs.Runs.{written}
+use Rattle.commands.specs.BasicCommands.Runs.{written}
 use Rattle.session_run.specs.Serving.{Whole}
 use Rattle.session_run.specs.Timed.{TimedView, one_moment}
-use Rattle.crash_laws.specs.May.{MayServe}
+use Rattle.promises.specs.CrashLaws.May.{MayServe}
 use Rattle.ltfs_server.proofs.MakeSteps.{make_unbegun, timed_makes}
 use Rattle.ltfs_server.proofs.making.run_make.Goals as goal
 

@@ -1,4 +1,4 @@
-use Rattle.basic_commands.specs.Runs.{taken}
+use Rattle.commands.specs.BasicCommands.Runs.{taken}
 use Rattle.ltfs_server.proofs.Sentences.{sentence_holds}
 use Rattle.ltfs_server.proofs.server.run.Goals as goal
 

@@ -1,8 +1,8 @@
 use Rattle.std.proofs.Common.{arith, subst, sym}
-use Rattle.basic_commands.specs.Runs.{taken, written}
-use Rattle.basic_commands.specs.Scripts.{unread_text}
+use Rattle.commands.specs.BasicCommands.Runs.{taken, written}
+use Rattle.commands.specs.BasicCommands.Scripts.{unread_text}
 use Rattle.session_run.specs.Timed.{TimedView, one_moment}
-use Rattle.crash_laws.specs.May.{MayServe}
+use Rattle.promises.specs.CrashLaws.May.{MayServe}
 use Rattle.ltfs_server.proofs.ServeSteps.{serve_unread, timed_does}
 use Rattle.ltfs_server.proofs.serves.run_serve.Goals as goal
 

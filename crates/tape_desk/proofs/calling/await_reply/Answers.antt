@@ -1,6 +1,6 @@
 use Rattle.std.specs.Prelude.{[], ◌∷◌}
 use Rattle.std.proofs.Common.{◌∙◌}
-use Rattle.serving_promise.specs.declared.marks.MarkKind.TheVariants.{Hands as hands}
+use Rattle.promises.specs.declared.serving_promise.marks.MarkKind.TheVariants.{Hands as hands}
 use Rattle.tape_desk.proofs.Making.{goes_then, of_session}
 use Rattle.tape_desk.proofs.calling.await_reply.Goals as goal
 

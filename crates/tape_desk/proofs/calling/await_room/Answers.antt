@@ -1,7 +1,7 @@
 use Rattle.std.specs.Prelude.{[], ◌∷◌}
 use Rattle.std.proofs.Common.{◌∙◌}
 use Rattle.session_script.specs.declared.logs.Reply.TheVariants as replies
-use Rattle.serving_promise.specs.declared.marks.MarkKind.TheVariants.{Rests as rests}
+use Rattle.promises.specs.declared.serving_promise.marks.MarkKind.TheVariants.{Rests as rests}
 use Rattle.tape_desk.specs.Turns.{answered_at}
 use Rattle.tape_desk.proofs.Making.{goes_then, of_session}
 use Rattle.tape_desk.proofs.calling.await_room.Goals as goal

@@ -1,6 +1,6 @@
 use Rattle.std.specs.Prelude.{length}
-use Rattle.serving_promise.specs.Marks.{draining}
-use Rattle.order_laws.specs.Kept.{seen}
+use Rattle.promises.specs.ServingPromise.Marks.{draining}
+use Rattle.promises.specs.OrderLaws.Kept.{seen}
 use Rattle.tape_desk.specs.Turns.{kinds_of_drain}
 use Rattle.tape_desk.proofs.Shelved.{drain_keeps, drain_more}
 use Rattle.tape_desk.proofs.Taken.{adds_own, known_phase, has_gone_on}

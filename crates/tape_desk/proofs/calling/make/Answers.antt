@@ -1,6 +1,6 @@
 use Rattle.std.specs.Prelude.{[], ◌∷◌}
 use Rattle.std.proofs.Common.{◌∙◌}
-use Rattle.serving_promise.specs.declared.marks.MarkKind.TheVariants.{Places as places, Hands as hands, Begins as begins, Rests as rests}
+use Rattle.promises.specs.declared.serving_promise.marks.MarkKind.TheVariants.{Places as places, Hands as hands, Begins as begins, Rests as rests}
 use Rattle.tape_desk.specs.Turns.{answered_at}
 use Rattle.tape_desk.proofs.Making.{made_at_once, made_in_time, made_void, of_session, off_again}
 use Rattle.tape_desk.proofs.calling.make.Goals as goal

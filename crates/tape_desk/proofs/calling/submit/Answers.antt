@@ -1,5 +1,5 @@
 use Rattle.std.specs.Prelude.{length}
-use Rattle.order_laws.specs.Kept.{seen}
+use Rattle.promises.specs.OrderLaws.Kept.{seen}
 use Rattle.tape_desk.specs.Turns.{kinds_of_submit}
 use Rattle.tape_desk.proofs.Shelved.{submit_keeps, submit_more}
 use Rattle.tape_desk.proofs.Taken.{adds_own, can_submit, has_gone_on}

@@ -1,5 +1,5 @@
-use Rattle.serving_promise.specs.Marks.{waits}
-use Rattle.order_laws.specs.Kept.{seen}
+use Rattle.promises.specs.ServingPromise.Marks.{waits}
+use Rattle.promises.specs.OrderLaws.Kept.{seen}
 use Rattle.tape_desk.specs.Turns.{kinds_of_turn}
 use Rattle.tape_desk.proofs.Shelved.{turn_keeps, turn_more}
 use Rattle.tape_desk.proofs.Taken.{adds_own, fixed_stays, has_gone_on, known_phase}

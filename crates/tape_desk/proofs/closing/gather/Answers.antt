@@ -1,6 +1,6 @@
 use Rattle.std.proofs.Common.{arith, ℕ, ◌≡◌, ◌+◌, ◌++◌, ◌∷◌, [], Some, ap, append_assoc, append-nil, length, refl, subst, sym, ◌∙◌}
 use Rattle.std.proofs.lemmas.List.{length_push}
-use Rattle.serving_promise.specs.Served.{View}
+use Rattle.promises.specs.ServingPromise.Served.{View}
 use Rattle.tape_desk.specs.Gathering.{HasGathered}
 use Rattle.tape_desk.proofs.Gathers.{are_parts, first_gathered, lock_is, next_gathered, nothing_waits, still_all}
 use Rattle.tape_desk.proofs.closing.gather.Goals as goal

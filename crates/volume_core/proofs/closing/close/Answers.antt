@@ -1,6 +1,6 @@
 use Rattle.std.proofs.Common.{sym, ap, subst, ◌∙◌}
 use Rattle.file_tree.specs.Valid.{IsGood}
-use Rattle.event_laws.specs.Trail.{IsTrail}
+use Rattle.head_queue.specs.EventLaws.Trail.{IsTrail}
 use Rattle.event_journal.specs.Trails.{Journaled}
 use Rattle.volume_core.proofs.closing.close.Goals as goal
 

@@ -1,5 +1,5 @@
 use Rattle.std.proofs.Common.{ap, subst, ◌∙◌}
-use Rattle.volume_steps.specs.Seen.{seen_parts}
+use Rattle.volume_core.specs.VolumeSteps.Seen.{seen_parts}
 use Rattle.volume_core.specs.Drains.{EndsAt}
 use Rattle.volume_core.specs.Turns.{told}
 use Rattle.volume_core.proofs.Given.{ends_at_once}

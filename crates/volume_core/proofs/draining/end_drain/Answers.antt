@@ -1,4 +1,4 @@
-use Rattle.serving_promise.specs.Faults.{kept_for}
+use Rattle.promises.specs.ServingPromise.Faults.{kept_for}
 use Rattle.volume_core.proofs.Given.{no_one, the_one}
 use Rattle.volume_core.proofs.draining.end_drain.Goals as goal
 

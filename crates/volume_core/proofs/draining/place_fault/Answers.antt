@@ -1,6 +1,6 @@
 use Rattle.plain_tree.specs.declared.calls.Fate.TheVariants as fates
 use Rattle.session_script.specs.declared.logs.Reply.TheVariants.{Fault}
-use Rattle.volume_steps.specs.Seen.{seen_parts}
+use Rattle.volume_core.specs.VolumeSteps.Seen.{seen_parts}
 use Rattle.volume_core.proofs.Faulted.{none_yet, places_void, there_now, waits_here}
 use Rattle.volume_core.proofs.draining.place_fault.Goals as goal
 

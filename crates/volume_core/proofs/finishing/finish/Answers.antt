@@ -4,7 +4,7 @@ use Rattle.std.proofs.Common.{◌∙◌, refl, subst, sym}
 use Rattle.tape_layout.specs.Plans.{Plan}
 use Rattle.tape_layout.specs.declared.errors.AdmitErr.{AdmitErr}
 use Rattle.tape_layout.specs.declared.errors.AdmitErr.TheVariants.{Full}
-use Rattle.volume_steps.specs.Seen.{seen_parts}
+use Rattle.volume_core.specs.VolumeSteps.Seen.{seen_parts}
 use Rattle.held_volume.specs.Closed.{IsDpChange}
 use Rattle.volume_core.specs.Doing.{CanDoAll, lasts_in}
 use Rattle.volume_core.specs.Commands.{Lasts}

@@ -1,8 +1,8 @@
 use Rattle.std.proofs.Common.{ap, sym, subst, ◌∙◌}
 use Rattle.plain_tree.specs.declared.calls.Call.{Call}
 use Rattle.plain_tree.specs.declared.calls.Call.TheVariants as asks
-use Rattle.volume_steps.specs.Asking.{IsSubmitted}
-use Rattle.volume_steps.specs.Seen.{seen_parts}
+use Rattle.volume_core.specs.VolumeSteps.Asking.{IsSubmitted}
+use Rattle.volume_core.specs.VolumeSteps.Seen.{seen_parts}
 use Rattle.volume_core.proofs.submitting.make.Goals as goal
 
 pub returns-in-Read-clause-submits : goal.returns-in-Read-clause-submits

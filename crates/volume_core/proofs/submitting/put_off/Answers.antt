@@ -1,4 +1,4 @@
-use Rattle.volume_steps.specs.Seen.{seen_parts}
+use Rattle.volume_core.specs.VolumeSteps.Seen.{seen_parts}
 use Rattle.volume_core.specs.Turns.{told}
 use Rattle.volume_core.proofs.Submissions.{drains_at, void_at}
 use Rattle.volume_core.proofs.submitting.put_off.Goals as goal

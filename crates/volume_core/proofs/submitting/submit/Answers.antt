@@ -1,8 +1,8 @@
 use Rattle.std.specs.Prelude.{◌&&◌, nat_lt, length}
 use Rattle.std.proofs.Common.{ap, ◌∙◌}
 use Rattle.tape_layout.specs.Plans.{Plan}
-use Rattle.serving_promise.specs.Replies.{is_write}
-use Rattle.volume_steps.specs.Seen.{seen_parts}
+use Rattle.promises.specs.ServingPromise.Replies.{is_write}
+use Rattle.volume_core.specs.VolumeSteps.Seen.{seen_parts}
 use Rattle.volume_core.specs.Turns.{told}
 use Rattle.volume_core.proofs.AskLemmas.{can_ask, can_want_blocks, may_drain, stands}
 use Rattle.volume_core.proofs.Submissions.{is_many, not_put_off, placed_at, put_off_now}

@@ -1,4 +1,4 @@
-use Rattle.call_laws.specs.Handing.{at_once}
+use Rattle.volume_state.specs.CallLaws.Handing.{at_once}
 use Rattle.volume_core.proofs.Made.{hands_again, hands_first, steps_can, steps_waiting, turns_more, turns_ready}
 use Rattle.volume_core.proofs.turning.turn.Goals as goal
 

@@ -1,5 +1,5 @@
 use Rattle.std.proofs.Common.{arith, ◌≡◌, ◌-◌, ◌≤◌, vec_capacity, vec_len, sym, subst}
-use Rattle.serving_promise.specs.Marks.{phase, waits}
+use Rattle.promises.specs.ServingPromise.Marks.{phase, waits}
 use Rattle.event_journal.specs.declared.placements.What.TheVariants as stored
 use Rattle.event_journal.specs.Placements.{IsThere, Listed}
 use Rattle.event_journal.proofs.placements.Placements.hand.Goals as goal

@@ -1,5 +1,5 @@
 use Rattle.std.proofs.Common.{arith, ◌≡◌, ◌-◌, ◌≤◌, vec_capacity, vec_len, sym, subst}
-use Rattle.serving_promise.specs.Marks.{draining, phase}
+use Rattle.promises.specs.ServingPromise.Marks.{draining, phase}
 use Rattle.event_journal.specs.Placements.{Listed}
 use Rattle.event_journal.proofs.placements.Placements.rest.Goals as goal
 use Rattle.event_journal.proofs.PlacementLemmas.{rest_fits, rest_listed}

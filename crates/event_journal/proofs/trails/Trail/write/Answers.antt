@@ -1,6 +1,6 @@
 use Rattle.std.proofs.Common.{rules, arith, ◌≡◌, ◌-◌, vec_len, vec_capacity, true, Some, None, sym, ap, subst, ◌∙◌}
 use Rattle.session_script.specs.declared.logs.Event.TheVariants.{Worked}
-use Rattle.event_laws.specs.Trail.{after, after_all, allows}
+use Rattle.head_queue.specs.EventLaws.Trail.{after, after_all, allows}
 use Rattle.event_journal.specs.Trails.{Journaled, state}
 use Rattle.event_journal.proofs.TrailLemmas.{IsMoved, free, some_left, written_tracked}
 use Rattle.event_journal.proofs.trails.Trail.write.Goals as goal

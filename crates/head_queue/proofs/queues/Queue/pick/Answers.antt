@@ -1,6 +1,6 @@
 use Rattle.std.proofs.Common.{◌≡◌, ◌+◌, false, Option, Some, IfSome, sym, subst, ◌∙◌}
 use Rattle.tape_types.specs.declared.cartridges.Place.{Place}
-use Rattle.event_laws.specs.Waiting.{key}
+use Rattle.head_queue.specs.EventLaws.Waiting.{key}
 use Rattle.head_queue.specs.Entries.{waiting}
 use Rattle.head_queue.specs.Keys.{is_upto}
 use Rattle.head_queue.specs.Picks.{IsPicked, IsOpPicked}

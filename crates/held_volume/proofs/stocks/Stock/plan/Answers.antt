@@ -5,7 +5,7 @@ use Rattle.extent_map.specs.declared.pieces.Piece.{Piece}
 use Rattle.plain_tree.specs.Paths.{Path}
 use Rattle.tape_layout.specs.Plans.{Plan}
 use Rattle.space_laws.specs.Standing.{Given, Standing}
-use Rattle.volume_sync.specs.declared.frames.Frame.{Frame}
+use Rattle.held_volume.specs.declared.volume_sync.frames.Frame.{Frame}
 use Rattle.held_volume.specs.Reads.{IsReadPlan, IsReadable}
 use Rattle.held_volume.specs.Stocks.{IsStock, Stocked, stocked}
 use Rattle.held_volume.proofs.stocks.Stock.plan.Goals as goal

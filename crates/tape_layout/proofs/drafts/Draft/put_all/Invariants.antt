@@ -1,6 +1,6 @@
 use Rattle.std.proofs.Common.{◌≡◌, ◌+◌, ◌++◌, map}
 use Rattle.std.specs.List.{range_with_len}
-use Rattle.index_construct.specs.Blocks.{block_at}
+use Rattle.tape_layout.specs.IndexConstruct.Blocks.{block_at}
 use Rattle.tape_layout.specs.declared.ops.Op.TheVariants.{Put}
 use Rattle.tape_layout.proofs.drafts.Draft.put_all.Given as goal
 

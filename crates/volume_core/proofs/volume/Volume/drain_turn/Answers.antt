@@ -1,8 +1,8 @@
 use Rattle.std.proofs.Common.{rules, ◌≡◌, ◌<◌, ◌^◌, sym, subst, arith}
-use Rattle.serving_promise.specs.Marks.{draining, phase}
-use Rattle.serving_promise.specs.Served.{View}
-use Rattle.log_laws.proofs.Loading.{drain_takes}
-use Rattle.volume_steps.specs.Seen.{seen_parts}
+use Rattle.promises.specs.ServingPromise.Marks.{draining, phase}
+use Rattle.promises.specs.ServingPromise.Served.{View}
+use Rattle.run_laws.proofs.LogLaws.Loading.{drain_takes}
+use Rattle.volume_core.specs.VolumeSteps.Seen.{seen_parts}
 use Rattle.volume_core.proofs.Acting.{drain_moves}
 use Rattle.volume_core.proofs.Serves.{drain_adds, drain_serves_on}
 use Rattle.volume_core.proofs.volume.Volume.drain_turn.Goals as goal

@@ -1,8 +1,8 @@
-use Rattle.call_laws.proofs.Promised.{running_is_promised}
+use Rattle.volume_state.proofs.CallLaws.Promised.{running_is_promised}
 use Rattle.std.proofs.Common.{subst}
-use Rattle.serving_promise.specs.Meanings.{cartridges}
-use Rattle.serving_promise.specs.Served.{IsServed, View}
-use Rattle.order_laws.specs.Kept.{seen}
+use Rattle.promises.specs.ServingPromise.Meanings.{cartridges}
+use Rattle.promises.specs.ServingPromise.Served.{IsServed, View}
+use Rattle.promises.specs.OrderLaws.Kept.{seen}
 use Rattle.volume_core.proofs.volume.Volume.keeps.Goals as goal
 
 pub returns : goal.returns

@@ -1,6 +1,6 @@
 use Rattle.std.proofs.Common.{ap, arith, sym, ◌∙◌}
 use Rattle.cartridge_meaning.specs.declared.mounted.Mounted.{Mounted}
-use Rattle.volume_steps.specs.Seen.{seen_parts}
+use Rattle.volume_core.specs.VolumeSteps.Seen.{seen_parts}
 use Rattle.held_volume.specs.Stocks.{Stocked}
 use Rattle.volume_core.specs.Serving.{fixed_of}
 use Rattle.volume_core.proofs.BeginLemmas.{BeginsServed, begins_served}

@@ -1,7 +1,7 @@
 use Rattle.std.specs.Prelude.{◌≤◌, vec_capacity}
 use Rattle.std.proofs.Common.{sym, subst}
-use Rattle.log_laws.proofs.Loading.{submission_adds}
-use Rattle.volume_steps.specs.Seen.{seen_parts}
+use Rattle.run_laws.proofs.LogLaws.Loading.{submission_adds}
+use Rattle.volume_core.specs.VolumeSteps.Seen.{seen_parts}
 use Rattle.volume_core.specs.Serving.{fixed_of, next_moment}
 use Rattle.volume_core.specs.Turns.{told}
 use Rattle.volume_core.proofs.Submissions.{Serves, can_of, serves}

@@ -1,8 +1,8 @@
 use Rattle.std.proofs.Common.{◌≡◌, sym, subst, arith}
-use Rattle.serving_promise.specs.Marks.{phase, waits}
-use Rattle.serving_promise.specs.Served.{View}
-use Rattle.log_laws.proofs.Loading.{turn_takes}
-use Rattle.volume_steps.specs.Seen.{seen_parts}
+use Rattle.promises.specs.ServingPromise.Marks.{phase, waits}
+use Rattle.promises.specs.ServingPromise.Served.{View}
+use Rattle.run_laws.proofs.LogLaws.Loading.{turn_takes}
+use Rattle.volume_core.specs.VolumeSteps.Seen.{seen_parts}
 use Rattle.volume_core.proofs.Acting.{turn_moves}
 use Rattle.volume_core.proofs.Serves.{turn_adds, turn_serves_on}
 use Rattle.volume_core.proofs.volume.Volume.turn.Goals as goal

@@ -1,9 +1,0 @@
-use Rattle.basic_commands.specs.Outcomes.{plain_text}
-use Rattle.basic_commands.proofs.PlainClauses.{plain_either}
-use Rattle.basic_commands.proofs.plain.run_plain.Goals as goal
-
-pub returns : goal.returns
-returns g c =
-    let end = c.play-end.result in
-    plain_either _ _ _ _ _ _ _ _ _ _ end c.tell_made.ensures.drive c.play-end.ensures c.tell_made.ensures.log c.into_parts-status.ensures.log c.into_parts-status.ensures.status
-    (c.tell_made.ensures.told (plain_text end) c.text-made.ensures)

@@ -1,0 +1,2 @@
+pub mod BasicCommands
+pub mod CommandLine

@@ -1,0 +1,9 @@
+use Rattle.std.proofs.Common.{ap₂, ◌∙◌}
+use Rattle.std.proofs.lemmas.Result.{IfOk-weaker}
+use Rattle.clap.specs.Simple.{with_rule}
+use Rattle.commands.proofs.command_line.forms.make_command.Goals as goal
+
+pub returns : goal.returns
+returns c =
+    IfOk-weaker c.arg-2.result _ _ (λ d h. h.shape c.option.ensures.global
+    ∙ ap₂ with_rule (c.in_ok-arg.ensures.shape c.positional.ensures.global ∙ ap₂ with_rule c.bare_command.ensures c.positional.ensures.rule) c.option.ensures.rule) c.arg-2.ensures

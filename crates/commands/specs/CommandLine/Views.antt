@@ -1,0 +1,36 @@
+-- What the words of `view` ask for: a generation, and maybe the path of a file.
+use Rattle.std.specs.Prelude.{◌≡◌, ℕ, ◌^◌, List, Option, Some, None, Result, Ok, Err, ◌&&◌, nat_le, if◌then◌else◌, codes}
+use Rattle.std.specs.Prelude.{option_and_then, option_map}
+use Rattle.clap.specs.Words.{App, Text, with_rule}
+use Rattle.plain_tree.specs.Paths.{Path}
+use Rattle.session_script.specs.Words.{number_of, path_of}
+use Rattle.commands.specs.CommandLine.Options.{Takes, bare, option, positional, value_of}
+use Rattle.commands.specs.declared.command_line.forms.WordsErr.{WordsErr}
+use Rattle.commands.specs.declared.command_line.forms.WordsErr.TheVariants as errors
+use Rattle.commands.specs.declared.command_line.views.ViewWords.{ViewWords}
+
+-- `G`, and `--read`
+abbrev pub view_app : App
+view_app = with_rule (with_rule (bare (codes "view")) (positional (codes "generation"))) (option (codes "read"))
+
+-- a number of 1 to 2^62
+abbrev pub generation_told : Option Text → Option ℕ
+generation_told text =
+    option_and_then (λ n. if nat_le 1 n && nat_le n (2 ^ 62) then Some n else None) (option_and_then number_of text)
+
+-- the path that a text spells as a script's word does, or none where there is no text
+abbrev pub path_told : Option Text → Option (Option Path)
+path_told None = Some None
+path_told (Some text) = option_map Some (path_of text)
+
+-- the words behind `view` and its folder
+pub record IsViewForm (words : List Text) (asked : ViewWords) : Type 0 where
+  pub takes : Takes view_app words
+  pub generation : generation_told (value_of view_app (codes "generation") words) ≡ Some asked.generation
+  pub path : path_told (value_of view_app (codes "read") words) ≡ Some asked.path
+
+-- what they ask for is read, or they are of no form
+abbrev pub IsViewRead : List Text → Result ViewWords WordsErr → Type 0
+IsViewRead words (Ok asked) = IsViewForm words asked
+IsViewRead words (Err errors.Form) = (asked : ViewWords) → ¬ (IsViewForm words asked)
+IsViewRead words (Err errors.NoMemory) = Unit {0}

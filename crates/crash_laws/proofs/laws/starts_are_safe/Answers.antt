@@ -1,5 +1,0 @@
-use Rattle.crash_laws.proofs.Begins.{starts_are_safe}
-use Rattle.crash_laws.proofs.laws.starts_are_safe.Goals as goal
-
-pub returns : goal.returns
-returns g c = starts_are_safe g.D.Drive g.met.D.Drive.counts_now

@@ -1,6 +1,0 @@
-use Rattle.std.proofs.Common.{◌∙◌, sym}
-use Rattle.doc_elements.proofs.Missing.{missing_more}
-use Rattle.doc_elements.proofs.children.Children.first_missing.Goals as goal
-
-pub loop-tag-preserved : goal.loop-tag-preserved
-loop-tag-preserved c = λ tags holds. sym (missing_more tags c.args.required.now c.loop-tag.tag-index _ c.loop-tag-test.true (sym (c.if-not-has.ensures tags holds))) ∙ c.loop-tag.invariant tags holds

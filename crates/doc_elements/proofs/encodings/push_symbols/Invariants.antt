@@ -1,6 +1,0 @@
-use Rattle.std.proofs.Common.{◌≡◌, ◌++◌, take}
-use Rattle.doc_elements.specs.Pieces.{without_space}
-use Rattle.doc_elements.proofs.encodings.push_symbols.Given as goal
-
-abbrev pub invariant-loop-byte : goal.invariant-loop-byte
-invariant-loop-byte l = l.symbols.items ≡ l.fn.symbols.items ++ without_space (take l.byte-index l.text)

@@ -1,5 +1,0 @@
-use Rattle.doc_elements.proofs.Base64Blocks.{IsLeft}
-use Rattle.doc_elements.proofs.encodings.take_bytes.Given as goal
-
-abbrev pub invariant-loop-byte : goal.invariant-loop-byte
-invariant-loop-byte l = IsLeft l.fn.out.items l.fn.block.items l.bytes l.byte-index l.out.items l.block.items

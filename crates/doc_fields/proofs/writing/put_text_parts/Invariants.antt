@@ -1,5 +1,0 @@
-use Rattle.doc_fields.proofs.Escapes.{IsKept}
-use Rattle.doc_fields.proofs.writing.put_text_parts.Given as goal
-
-abbrev pub invariant-loop-i : goal.invariant-loop-i
-invariant-loop-i l = IsKept l.fn.out.items l.out.items l.text l.from l.i

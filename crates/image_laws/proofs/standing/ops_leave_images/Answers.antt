@@ -1,7 +1,0 @@
-use Rattle.image_laws.proofs.Events.{within_image}
-use Rattle.image_laws.proofs.standing.ops_leave_images.Goals as goal
-
--- src/standing.rt:25:1
-pub returns : goal.returns
-returns c = λ v t plan whole s held op next reads sound then before image is up within.
-    within_image v t plan whole s held op next reads sound then before image is up within

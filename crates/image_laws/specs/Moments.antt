@@ -1,9 +1,0 @@
--- The moments of a drive that tells its content.
-use Rattle.tape_types.specs.declared.cartridges.Cartridge.{Cartridge}
-use Rattle.tape_drive.specs.declared.drive.Drive.{Ghosts}
-use Rattle.image_laws.specs.Kept.{Moment}
-
--- a drive at a moment, with the cartridge that it tells then
-abbrev pub moment_of : {D : Type 0} → Ghosts D → D → Cartridge → Moment
-moment_of drive d held = record
-    { held = held; commands = drive.commands d; leaves = drive.leaves d; left = drive.left_since d }

@@ -1,6 +1,0 @@
-use Rattle.index_model.specs.Keys.{HasKeyTwice}
-use Rattle.index_faults.specs.Firsts.{IsNowhereBefore}
-use Rattle.index_faults.proofs.double_keys.first_key_twice.Given as goal
-
-abbrev pub invariant-loop-node : goal.invariant-loop-node
-invariant-loop-node l = IsNowhereBefore (HasKeyTwice l.nodes) l.node-index

@@ -1,5 +1,0 @@
-use Rattle.index_faults.proofs.KeySteps.{Ascends}
-use Rattle.index_faults.proofs.double_keys.keys_ascend.Given as goal
-
-abbrev pub invariant-loop-at : goal.invariant-loop-at
-invariant-loop-at l = Ascends l.xattrs l.at

@@ -1,6 +1,0 @@
-use Rattle.index_model.specs.Extents.{IsBadFile}
-use Rattle.index_faults.specs.Firsts.{IsNowhereBefore}
-use Rattle.index_faults.proofs.extents.first_bad_file.Given as goal
-
-abbrev pub invariant-loop-node : goal.invariant-loop-node
-invariant-loop-node l = IsNowhereBefore (IsBadFile l.nodes) l.node-index

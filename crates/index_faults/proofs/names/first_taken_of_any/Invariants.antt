@@ -1,5 +1,0 @@
-use Rattle.index_faults.proofs.NameSteps.{IsKept}
-use Rattle.index_faults.proofs.names.first_taken_of_any.Given as goal
-
-abbrev pub invariant-loop-at : goal.invariant-loop-at
-invariant-loop-at l = IsKept l.nodes l.seen l.at

@@ -1,5 +1,0 @@
-use Rattle.index_faults.proofs.RisingUids.{IsKept}
-use Rattle.index_faults.proofs.uids.uids_ascend.Given as goal
-
-abbrev pub invariant-loop-node : goal.invariant-loop-node
-invariant-loop-node l = IsKept l.highest l.nodes l.last l.node-index

@@ -1,7 +1,0 @@
-use Rattle.std.proofs.Common.{refl}
-use Rattle.index_faults.proofs.uids.wrong_root_uid.Goals as goal
-
-pub returns-else-uid-eq-ROOT-clause-told : goal.returns-else-uid-eq-ROOT-clause-told
-returns-else-uid-eq-ROOT-clause-told c =
-    let first = c.in_ok-root.ensures.value in
-    (c.if-uid-eq-ROOT.false, record { node = c.in_ok-root.root.now; is = cc; same = refl })

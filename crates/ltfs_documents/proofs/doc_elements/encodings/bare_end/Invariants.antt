@@ -1,0 +1,6 @@
+use Rattle.ltfs_documents.specs.DocElements.Bare.{is_bare}
+use Rattle.ltfs_documents.proofs.DocElements.BareTexts.{IsRunTo}
+use Rattle.ltfs_documents.proofs.doc_elements.encodings.bare_end.Given as goal
+
+abbrev pub invariant-loop-i : goal.invariant-loop-i
+invariant-loop-i l = IsRunTo is_bare l.text l.at l.i

@@ -1,0 +1,3 @@
+pub mod DocElements
+pub mod DocFields
+pub mod LtfsText

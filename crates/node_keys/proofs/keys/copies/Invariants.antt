@@ -1,5 +1,0 @@
-use Rattle.std.proofs.Common.{◌≡◌, take}
-use Rattle.node_keys.proofs.keys.copies.Given as goal
-
-abbrev pub invariant-loop-xattr : goal.invariant-loop-xattr
-invariant-loop-xattr l = l.copies.items ≡ take l.xattr-index l.xattrs

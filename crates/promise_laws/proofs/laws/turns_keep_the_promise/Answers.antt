@@ -1,5 +1,0 @@
-use Rattle.promise_laws.proofs.Joined.{turns_keep_all}
-use Rattle.promise_laws.proofs.laws.turns_keep_the_promise.Goals as goal
-
-pub returns : goal.returns
-returns g c = turns_keep_all g.D.Drive g.met.D.Drive.only_now

@@ -1,0 +1,5 @@
+use Rattle.promises.proofs.CrashLaws.Placing.{calls_are_safe}
+use Rattle.promises.proofs.crash_laws.laws.calls_are_safe.Goals as goal
+
+pub returns : goal.returns
+returns g c = calls_are_safe g.D.Drive g.met.D.Drive.only_now

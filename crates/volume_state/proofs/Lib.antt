@@ -1,0 +1,5 @@
+pub mod CallLaws
+pub mod ClosingLaws
+pub mod DueLaws
+pub mod PlanLaws
+pub mod StateLaws

@@ -1,5 +1,0 @@
-use Rattle.volume_steps.proofs.RequestLemmas.{Asking}
-use Rattle.volume_steps.proofs.fetches.ask_all.Given as goal
-
-abbrev pub invariant-loop-place : goal.invariant-loop-place
-invariant-loop-place l = Asking l.ticket l.wanted l.place-index l.fn.trail l.trail l.fn.queue l.queue
