@@ -1,7 +1,7 @@
 """A case of the command line, which is a folder of these files; all but `words` may be missing.
 
     about     what the case shows, in one sentence
-    words     the commands, one a line: `ltfs_server` or `index_tool` and words, split as a shell splits them
+    words     the commands, one a line: `ltfs_server` or `index_tool` and words, split as a shell splits them; any bytes
     stdin     standard input of the last command, and stdin.1, stdin.2 .. those of the others by number; else empty
     stdout    what all commands print, one after the other; else nothing
     status    how each command ends, one a line; else each with 0
@@ -97,7 +97,7 @@ def start(words, stdin, streams, where, printed, said):
 
 def commands_of(folder):
     """Returns the words of each command of the case."""
-    return [shlex.split(line) for line in (folder / "words").read_text().splitlines() if line]
+    return [shlex.split(line) for line in (folder / "words").read_text(errors="surrogateescape").splitlines() if line]
 
 
 def run_commands(folder, where, apart):

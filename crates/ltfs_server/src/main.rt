@@ -8,11 +8,12 @@ mod server;
 mod serves;
 mod twice;
 
-use basic_commands::Status;
+use commands::basic_commands::Status;
 use file_drive::{Claim, FileDrive};
 use server::run;
 use std::alloc::{AllocError, Global};
 use std::env;
+use std::io::ErrorKind;
 use std::process::ExitCode;
 use tape_edge::{OpenGate, Patient, ReaderSource, SystemClock, WriterSink};
 use tape_types::NoMemory;
@@ -73,13 +74,14 @@ fn claim_of(words: &Vec<String>) -> Claim {
     }
 }
 
-/// The words of the command line without the program's name.
+/// The words of the command line without the program's name; none, which are of no form, where one isn't UTF-8.
 fn words_of<R: std::rt::Env + AllocGlobal>(
     rt: &R,
     alloc: Global,
 ) -> Result<Vec<String>, AllocError> {
     match env::args(rt) {
         Ok(words) => words.skip(1).collect(alloc),
-        Err(_) => Err(AllocError),
+        Err(error) if error.kind() == ErrorKind::OutOfMemory => Err(AllocError),
+        Err(_) => Ok(Vec::new(alloc)),
     }
 }
