@@ -3,8 +3,8 @@
 
 Begins with the names in the clause `headline` of `run`, in what `run` requires of a drive's owner and in the contracts
 of the traits Drive, Source, Sink and Clock, and goes from each definition to those that it names, to the end. Prints
-the count of definitions with their lines (without comments, blank lines and imports) by crate, and that of the types of
-the code that they name; and the same without some of these beginnings.
+the count of definitions with their lines (without comments, blank lines and imports) by crate, or by part of a crate, and
+that of the types of the code that they name; and the same without some of these beginnings.
 """
 import collections
 import os
@@ -159,8 +159,14 @@ def sums(specs, found):
     return f"{len(found)} definitions of {sum(specs.lines[key] for key in found):,} lines"
 
 
-def main():
-    top = sys.argv[1] if len(sys.argv) > 1 else "."
+def unit(module):
+    """The part of a crate to which a module of definitions belongs, or the crate where it is of no part."""
+    crate, _, *path = module.split(".")
+    return re.sub(r"(?<!^)(?=[A-Z])", "_", path[0]).lower() if len(path) > 1 else crate
+
+
+def count(top):
+    """The definitions of all, and the found keys of each count by the name of what is left out or counted beside."""
     specs = Specs(top)
     source = lambda *parts: os.path.join(top, "crates", *parts)
     run = source("ltfs_server", "src", "server.rt")
@@ -171,15 +177,29 @@ def main():
         traits |= roots(specs, path, lambda text: [text])
     law = {(f"ltfs_server.specs.{module}", name) for module, name in (("Sentence", "SurvivesInMemory"),)}
     found, types = closure(specs, sentence | owner | traits)
-    crates = collections.defaultdict(set)
+    return specs, types, {
+        "all": found,
+        "without the contracts of the traits": closure(specs, sentence | owner)[0],
+        "without what `run` requires": closure(specs, sentence | traits)[0],
+        "more for the law over the drive in memory": closure(specs, law)[0] - found,
+    }
+
+
+def units(found):
+    """The found keys by crates and parts."""
+    parts = collections.defaultdict(set)
     for key in found:
-        crates[key[0].split(".")[0]].add(key)
-    for crate in sorted(crates):
-        print(f"{crate:20} {sums(specs, crates[crate])}")
-    print(f"all: {sums(specs, found)}, {len(types)} types of the code")
-    print("without the contracts of the traits:", sums(specs, closure(specs, sentence | owner)[0]))
-    print("without what `run` requires:", sums(specs, closure(specs, sentence | traits)[0]))
-    print("more for the law over the drive in memory:", sums(specs, closure(specs, law)[0] - found))
+        parts[unit(key[0])].add(key)
+    return parts
+
+
+def main():
+    specs, types, counted = count(sys.argv[1] if len(sys.argv) > 1 else ".")
+    parts = units(counted["all"])
+    for part in sorted(parts):
+        print(f"{part:20} {sums(specs, parts[part])}")
+    for name, found in counted.items():
+        print(f"{name}: {sums(specs, found)}" + (f", {len(types)} types of the code" if name == "all" else ""))
 
 
 if __name__ == "__main__":

@@ -80,7 +80,7 @@ def help_examples():
 
 def version():
     ran = run(["./ltfs_server", "--version"], clone("version"), env=environment(PATH=without_rt()))
-    told = rb"ltfs_server, for LTFS 2\.4, (a copy without its history|commit \w+ of [-\d]+), not built\n"
+    told = rb"ltfs_server 1\.0\.0, for LTFS 2\.4, (a copy without its history|commit \w+ of [-\d]+), not built\n"
     return compare("status", 0, ran.status) + compare(f"whether it is {told}", True, bool(re.fullmatch(told, ran.out)))
 
 
