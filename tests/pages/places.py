@@ -97,6 +97,8 @@ def definitions():
     found = []
     for name, text in pages().items():
         for names, path in DEFINED.findall(prose(text)):
+            if path.split("/")[0] in OWN and not name.startswith("crates/"):
+                continue  # it says not of which crate
             files = {start / path for start in starts(name, path) if (start / path).is_file()}
             if not files:
                 continue
