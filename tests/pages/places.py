@@ -108,4 +108,24 @@ def definitions():
     return found
 
 
-CASES = {"links": links, "paths": paths, "definitions_named": definitions}
+@functools.lru_cache(None)
+def words_of_code():
+    """All words in the code and the definitions of the crates."""
+    files = [it for part in ("src/**/*.rt", "specs/**/*.antt") for it in TOP.glob(f"crates/*/{part}")]
+    return set().union(*(re.findall(r"\w+", it.read_text(encoding="utf-8")) for it in files))
+
+
+def clauses():
+    """Each name in the column of clauses is a word of the code, on the page of promises and in READMEs of crates."""
+    found = []
+    for name, text in pages().items():
+        if name != "docs/PROMISES.md" and not name.startswith("crates/"):
+            continue
+        for row in re.findall(r"^\|.*\| ([^|]+) \|$", text, re.M):
+            for word in re.findall(r"`(?:\w+::)*(\w+)`", row):
+                if word not in words_of_code() and not (TOP / "crates" / word).is_dir():
+                    found.append(f"{name}: no {word} in the code")
+    return found
+
+
+CASES = {"links": links, "paths": paths, "definitions_named": definitions, "clauses": clauses}
