@@ -9,10 +9,10 @@ LONGEST = {"docs/PROMISES.md": (5_000, 40)}
 
 
 def sentences(text):
-    """The sentences of a page with the number of their line: cells of tables end one, and so do lines."""
+    """The sentences of a page with the number of their line. The cell of a table ends one, and so does a line."""
     for number, line in enumerate(text.splitlines(), 1):
-        for cell in re.split(r"(?<!\\)\|", line):
-            for it in re.split(r"(?<=[.:;?!])\s+(?=[A-Z`*\[(])|;\s", cell):
+        for cell in line.split("|"):
+            for it in re.split(r"(?<=[.?!])\s+", cell):
                 yield number, it.strip()
 
 
