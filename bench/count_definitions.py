@@ -12,6 +12,8 @@ import re
 import sys
 
 NAME = r"[A-Za-z_][A-Za-z0-9_']*"
+# Where the folder of a part's definitions isn't named as the part: no two names may differ by capitals alone.
+FOLDERS = {"placement_policy": "placement"}
 USE = re.compile(r"(?:ghost )?(pub )?use Rattle\.([\w.'-]+?)(?:\.\{([^}]*)\}| as (\w+))?;?$")
 
 
@@ -162,7 +164,8 @@ def sums(specs, found):
 def unit(module):
     """The part of a crate to which a module of definitions belongs, or the crate where it is of no part."""
     crate, _, *path = module.split(".")
-    return re.sub(r"(?<!^)(?=[A-Z])", "_", path[0]).lower() if len(path) > 1 else crate
+    name = re.sub(r"(?<!^)(?=[A-Z])", "_", path[0]).lower() if len(path) > 1 else crate
+    return FOLDERS.get(name, name)
 
 
 def count(top):
