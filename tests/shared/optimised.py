@@ -1,31 +1,12 @@
-"""A kit whose programs with checks are optimised: links to the kit that is installed, with its clang behind a script.
-
-`rt try` has its program compiled at -O0, as it stands, with all checks and the address sanitizer. The script asks for
--O1 in place of that, and for the same checks.
-"""
+"""A kit whose programs with checks are optimised, as the launchers build by one: launch/kit.sh says how it is made."""
 
 import contextlib
 import pathlib
 import shutil
+import subprocess
 import tempfile
 
-# These find the kit by their own place, so that links to them would find the one that is installed.
-PLACED = "rt", "rtlib.py"
-IN_FRONT = """#!/bin/sh
-for it; do
-  shift
-  [ "$it" != -O0 ] || it=-O1
-  set -- "$@" "$it"
-done
-exec '{clang}' "$@"
-"""
-
-
-def link_all(source, to, but=()):
-    to.mkdir()
-    for it in source.iterdir():
-        if it.name not in but:
-            (to / it.name).symlink_to(it)
+from cases import TOP
 
 
 @contextlib.contextmanager
@@ -34,13 +15,6 @@ def optimised_rt():
     kit = pathlib.Path(shutil.which("rt")).resolve().parents[1]
     with tempfile.TemporaryDirectory(prefix="kit-") as folder:
         made = pathlib.Path(folder) / "kit"
-        link_all(kit, made, ("bin", "toolchain"))
-        link_all(kit / "bin", made / "bin", PLACED)
-        for name in PLACED:
-            shutil.copy(kit / "bin" / name, made / "bin")
-        link_all(kit / "toolchain", made / "toolchain", ("bin",))
-        link_all(kit / "toolchain" / "bin", made / "toolchain" / "bin", ("clang",))
-        clang = made / "toolchain" / "bin" / "clang"
-        clang.write_text(IN_FRONT.format(clang=kit / "toolchain" / "bin" / "clang"))
-        clang.chmod(0o755)
+        make = 'source "$1" && make_kit "$2" "$3"'
+        subprocess.run(["bash", "-c", make, "bash", TOP / "launch/kit.sh", kit, made], check=True)
         yield str(made / "bin" / "rt")
