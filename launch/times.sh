@@ -4,6 +4,12 @@
 # shellcheck disable=SC2034,SC2154
 checked_build="one to two minutes"
 case $name in
-  ltfs_server) proved_build="up to 40 minutes on four processors" ;;
-  *) proved_build="up to 20 minutes on four processors" ;;
+  ltfs_server)
+    optimised_build="two to four minutes"
+    proved_build="up to 40 minutes on four processors"
+    ;;
+  *)
+    optimised_build="about a minute"
+    proved_build="up to 20 minutes on four processors"
+    ;;
 esac

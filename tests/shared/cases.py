@@ -11,6 +11,9 @@ import pathlib
 import sys
 
 TOP = pathlib.Path(__file__).resolve().parents[2]
+# A launcher that runs a checked program begins to optimise it behind itself, unless this says no. Beside tests it would
+# take two processors for minutes; those of the second build take this back.
+os.environ["LTFS_SECOND_BUILD"] = "no"
 # The longest piece of a text that is shown of a case that failed.
 SHOWN = 2_000
 # How much of what is alike is shown in front of the first difference of long texts.
