@@ -53,13 +53,13 @@ def without_rt():
     return os.pathsep.join(it for it in os.environ["PATH"].split(os.pathsep) if not os.access(f"{it}/rt", os.X_OK))
 
 
-def clone(name):
+def clone(name, is_wanted=lambda _: True):
     """Makes a clone of the work tree as it stands, with nothing that was built."""
     path = WORK / name
     listed = ["git", "ls-files", "-z", "--cached", "--others", "--exclude-standard"]
     names = subprocess.run(listed, cwd=TOP, capture_output=True, check=True).stdout.decode().split("\0")
     for it in filter(None, names):
-        if (TOP / it).is_file():
+        if is_wanted(it) and (TOP / it).is_file():
             (path / it).parent.mkdir(parents=True, exist_ok=True)
             shutil.copy(TOP / it, path / it)
     return path
@@ -152,18 +152,22 @@ def first_runs():
     return where, both
 
 
+def as_reader(where, *own):
+    """How somebody runs a program who can't write this clone, but these folders."""
+    if os.geteuid() == 0:
+        for it in own:
+            os.chown(it, NOBODY, NOBODY)
+        return {"user": NOBODY, "group": NOBODY, "extra_groups": []}
+    subprocess.run(["chmod", "-R", "a-w", where], check=True)
+    return {}
+
+
 @once
 def unwritable_runs():
     """Two runs of somebody else in a clone that they can't write, and one where they have no folder of their own."""
     where = clone("unwritable")
     cache, temporary = folder("their cache"), folder("their temporary files")
-    how = {}
-    if os.geteuid() == 0:
-        for it in (cache, temporary):
-            os.chown(it, NOBODY, NOBODY)
-        how = {"user": NOBODY, "group": NOBODY, "extra_groups": []}
-    else:
-        subprocess.run(["chmod", "-R", "a-w", where], check=True)
+    how = as_reader(where, cache, temporary)
     env = environment(HOME="/nonexistent", XDG_CACHE_HOME=cache, TMPDIR=temporary)
     nowhere = environment(HOME="/nonexistent", XDG_CACHE_HOME="/nonexistent", TMPDIR=temporary)
     words, given = ["./index_tool", "check"], (where / "examples/archive.xml").read_bytes()
@@ -191,11 +195,12 @@ def ready():
 
 
 def with_index_tool(name):
-    """A clone with the checked program of index_tool and no proved one."""
+    """A clone with the checked program of index_tool, neither an optimised nor a proved one."""
     where = clone(name)
     (where / "launch/built").mkdir(exist_ok=True)
     for it in (ready() / "launch/built").glob("index_tool-*"):
-        shutil.copy(it, where / "launch/built")
+        if not it.name.endswith("-optimised"):
+            shutil.copy(it, where / "launch/built")
     if not is_kept(where, "index_tool"):
         for it in (unwritable_runs()[1] / "ltfs_server").glob("index_tool-*"):
             shutil.copy(it, where / "launch/built")
