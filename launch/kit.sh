@@ -1,6 +1,6 @@
 # A kit whose programs with checks are optimised: links to the kit that is installed, with its clang behind a script.
-# `rt try` has a program compiled at -O0, with all checks and the address sanitizer; the script asks for -O1 in place of
-# that, and for the same checks. The launchers build by it, and some of the tests.
+# `rt try` has a program compiled at -O0, with all checks and the address sanitizer; the script asks for -O1 in place
+# of that, and for the same checks. The launchers build by it, and some of the tests.
 # shellcheck shell=bash
 
 # Makes a folder with links to all that stands in another one, but what is named behind the two.

@@ -1,6 +1,7 @@
 # The optimised program: the sources and the checks of the checked one, compiled at -O1 (kit.sh). It is built behind a
-# command, by `--ready` in a session of its own, and takes its place by one rename. No start waits for it. Who builds it
-# has a lock from before its first step to behind its last one, and why it failed is noted, so that no start tries again.
+# command, by `--ready` in a session of its own, and takes its place by one rename; no other run waits for it. Who
+# builds it has a lock from before its first step to behind its last. Why it failed is noted, and only `--ready` tries
+# again then.
 # shellcheck shell=bash
 # shellcheck disable=SC2154
 
