@@ -1,7 +1,24 @@
-# A kit whose programs with checks are optimised: links to the kit that is installed, with its clang behind a script.
+# What the launchers know of the kit. It may be another one than that with which the program was proved; and they make
+# one of it whose programs with checks are optimised: links to the kit that is installed, with its clang behind a script.
 # `rt try` has a program compiled at -O0, with all checks and the address sanitizer; the script asks for -O1 in place
 # of that, and for the same checks. The launchers build by it, and some of the tests.
 # shellcheck shell=bash
+# shellcheck disable=SC2154
+
+# The kit with which the program was proved. README.md names it, too.
+proved_kit=rattle-kit-13f
+
+# Ends with these words where there is no kit, and tells where it is older than that one.
+need_kit() {
+  local here older
+  command -v rt > /dev/null || fail "$1"
+  here=$(rt version 2>/dev/null)
+  here=${here%% *}
+  older=$(printf '%s\n' "$here" "$proved_kit" | LC_ALL=C sort -V | head -n 1)
+  if [ -n "$here" ] && [ "$here" != "$proved_kit" ] && [ "$here" = "$older" ]; then
+    say "the kit here, $here, is older than $proved_kit, with which the program was proved"
+  fi
+}
 
 # Makes a folder with links to all that stands in another one, but what is named behind the two.
 link_all() {

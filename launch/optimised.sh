@@ -86,7 +86,7 @@ make_ready() {
   fi
   [ "$(ulimit -v)" = unlimited ] || fail "the checked program can't run where 'ulimit -v' sets a limit"
   if ! find_checked || [ -z "$is_optimised" ]; then
-    command -v rt > /dev/null || fail "it isn't built, and rt, which builds it, isn't on the path"
+    need_kit "it isn't built, and rt, which builds it, isn't on the path"
     choose_place
     [ -n "$place" ] || fail "no folder to keep it can be written"
     trap clean EXIT

@@ -42,7 +42,7 @@ prove_program() {
     tell_cost
     return
   fi
-  command -v rt > /dev/null || fail "rt, which proves and builds it, isn't on the path"
+  need_kit "rt, which proves and builds it, isn't on the path"
   [ -w "$folder" ] || fail "it can't be proved here, since $folder can't be written"
   trap clean EXIT
   trap 'fail "cut off before the program was built"' INT TERM HUP

@@ -130,5 +130,12 @@ def version():
     return found + compare("CHANGELOG.md: the newest release", told, heading and heading[1])
 
 
-CASES = {"code": code_counts, "groups": groups_in_order, "definitions": definition_counts, "layers": layers,
+def kit():
+    """The kit that the launchers take for that of the proofs is the one that pages name."""
+    told = re.search(r"^proved_kit=(.*)$", page("launch/kit.sh"), re.M)[1]
+    named = {it for name in ("README.md", "CONTRIBUTING.md") for it in re.findall(r"`(rattle-kit-\w+)`", page(name))}
+    return compare("the kits in README.md and CONTRIBUTING.md", [told], sorted(named))
+
+
+CASES = {"code": code_counts, "kit": kit, "groups": groups_in_order, "definitions": definition_counts, "layers": layers,
          "edge_files": edge_files, "version": version}
