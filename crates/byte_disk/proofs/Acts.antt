@@ -40,7 +40,7 @@ still_reached t count count2 le rose =
 pub any_same : (file : File) (at n : ℕ) (d : Files) → IsBroken file at n d d
 any_same file at n d = record {
   others = others_same file d;
-  any = record { outside = λ i below out. refl; no_shorter = omega arith; no_longer = omega arith; bytes = λ are. are };
+  any = record { outside = λ i below out. refl; no_shorter = omega arith; no_longer = omega arith; each = λ i low. inr (low, refl) };
 }
   where
     others_same : (file : File) (d : Files) → KeepsOthers file d d

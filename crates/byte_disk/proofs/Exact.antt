@@ -1,7 +1,9 @@
 -- What a crash may leave is told by places, and is what choices give.
-use Rattle.std.proofs.Common.{ℕ, ◌+◌, ◌≤◌, ◌<◌, ◌≡◌, ⊎_elim, inl, inr, min, max, List, [], ◌∷◌, length, refl, sym, ◌∙◌, ap, subst, arith}
+use Rattle.std.proofs.Common.{ℕ, ◌+◌, ◌^◌, ◌≤◌, ◌<◌, ◌≡◌, ⊎_elim, inl, inr, min, max, List, [], ◌∷◌, length, refl, sym, ◌∙◌, ap, subst, arith}
 use Rattle.std.proofs.lemmas.Bool.{cases_lt}
 use Rattle.std.proofs.lemmas.List.{ext_get_or}
+use Rattle.std.proofs.lemmas.List.Elements.{All-get_or}
+use Rattle.byte_disk.proofs.Any.{any_bytes}
 use Rattle.byte_disk.specs.declared.disk.File.TheVariants.{Ip, Dp, Cm}
 use Rattle.byte_disk.specs.declared.record.Change.{Change}
 use Rattle.byte_disk.specs.declared.record.DoneCommand.{DoneCommand}
@@ -40,7 +42,7 @@ left_is held (w ∷ ws) kept image (before, left, any) =
           (cases_lt i (length before));
       no_shorter = omega (arith, was.no_shorter, any.no_shorter);
       no_longer = omega (arith, was.no_longer, any.no_longer);
-      bytes = any.bytes was.bytes;
+      bytes = any_bytes w.at w.count before image any was.bytes;
     }
 
 -- an image that is told by places is its own choice
@@ -76,7 +78,7 @@ is_left held (w ∷ ws) kept image left =
             (pending_or ws i);
         no_shorter = omega (arith, size, left.no_shorter);
         no_longer = omega (arith, size, left.no_shorter, left.no_longer);
-        bytes = λ are. left.bytes;
+        each = λ i lt. inl (All-get_or (λ (b : ℕ). b < 2 ^ 8) image i 0 lt left.bytes);
       },
     )
   where

@@ -9,6 +9,7 @@ use Rattle.byte_disk.specs.declared.record.Act.{Act}
 use Rattle.byte_disk.specs.declared.record.Act.TheVariants.{Wrote, Synced}
 use Rattle.byte_disk.specs.declared.record.DoneCommand.{DoneCommand}
 use Rattle.byte_disk.specs.Files.{Files, bytes_of, with_bytes, written, AreBytes}
+use Rattle.byte_disk.proofs.Any.{any_bytes}
 use Rattle.byte_disk.specs.Record.{change_of, unwritten, undo, pending_after, pending, LeavesFile, Numbered, AreKept, IsActKept, IsRecordOf, IsSound}
 use Rattle.byte_disk.proofs.Written.{put_back, put_kept}
 
@@ -61,7 +62,7 @@ put_undone at count bytes Cm d within = ap (λ (l : List ℕ). record { ip = d.i
 -- bytes stay bytes
 pub kept_bytes : (bytes : List ℕ) (ws : List Change) → AreKept bytes ws → AreBytes bytes
 kept_bytes bytes [] kept = kept
-kept_bytes bytes (w ∷ ws) kept = kept.0.any.bytes (kept_bytes (unwritten w bytes) ws kept.1)
+kept_bytes bytes (w ∷ ws) kept = any_bytes w.at w.count (unwritten w bytes) bytes kept.0.any (kept_bytes (unwritten w bytes) ws kept.1)
 
 act_kept : (file : File) (act : Act) (d : Files) (ws : List Change) → IsActKept act d → AreKept (bytes_of file (undo act d)) ws
     → AreKept (bytes_of file d) (pending_after file act ws)

@@ -1,3 +1,4 @@
+pub mod Any
 pub mod Acts
 pub mod Chosen
 pub mod Exact

@@ -5,6 +5,7 @@ use Rattle.std.specs.List.{list_all}
 use Rattle.std.proofs.lemmas.Bool.{and_from, lt-ltb}
 use Rattle.std.proofs.lemmas.List.Elements.{All-head, All-tail}
 use Rattle.crash_steps.specs.Crashes.{IsSureOf}
+use Rattle.byte_disk.proofs.Any.{any_bytes}
 use Rattle.byte_disk.specs.declared.disk.File.{File}
 use Rattle.byte_disk.specs.declared.disk.File.TheVariants.{Ip, Dp, Cm}
 use Rattle.byte_disk.specs.declared.record.DoneCommand.{DoneCommand}
@@ -38,19 +39,19 @@ record_files d es kept = record {
 -- any bytes in a range leave files of bytes
 pub broken_files : (file : File) (at n : ℕ) (d e : Files) → IsBroken file at n d e → AreFiles d → AreFiles e
 broken_files Ip at n d e broken are = record {
-  ip = broken.any.bytes are.ip;
+  ip = any_bytes at n d.ip e.ip broken.any are.ip;
   dp = subst (λ (l : List ℕ). AreBytes l) (sym broken.others.0) are.dp;
   cm = subst (λ (l : List ℕ). AreBytes l) (sym broken.others.1) are.cm;
 }
 broken_files Dp at n d e broken are = record {
   ip = subst (λ (l : List ℕ). AreBytes l) (sym broken.others.0) are.ip;
-  dp = broken.any.bytes are.dp;
+  dp = any_bytes at n d.dp e.dp broken.any are.dp;
   cm = subst (λ (l : List ℕ). AreBytes l) (sym broken.others.1) are.cm;
 }
 broken_files Cm at n d e broken are = record {
   ip = subst (λ (l : List ℕ). AreBytes l) (sym broken.others.0) are.ip;
   dp = subst (λ (l : List ℕ). AreBytes l) (sym broken.others.1) are.dp;
-  cm = broken.any.bytes are.cm;
+  cm = any_bytes at n d.cm e.cm broken.any are.cm;
 }
 
 only_by : (t : Bool) (d e : Files) → (if t then Some d else None) ≡ Some e → d ≡ e

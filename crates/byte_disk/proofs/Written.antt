@@ -1,8 +1,8 @@
 -- What `written` makes of a list, place by place.
-use Rattle.std.proofs.Common.{ℕ, ◌+◌, ◌-◌, ◌^◌, ◌≤◌, ◌<◌, ◌≡◌, ⊎_elim, max, min, List, ◌++◌, take, drop, length, get_or, sym, ◌∙◌, ap, subst, arith}
+use Rattle.std.proofs.Common.{ℕ, ◌+◌, ◌-◌, ◌^◌, ◌≤◌, ◌<◌, ◌≡◌, ⊎_elim, inl, inr, max, min, List, ◌++◌, take, drop, length, get_or, sym, ◌∙◌, ap, subst, arith}
 use Rattle.std.proofs.lemmas.Bool.{cases_lt}
 use Rattle.std.proofs.lemmas.List.{length-append, length-take, length-drop, length-take-le, get_or-append_right, get_or_append_left, get_or-take, get_or-drop, same_lists}
-use Rattle.std.proofs.lemmas.List.Elements.{All-append, All-take, All-drop}
+use Rattle.std.proofs.lemmas.List.Elements.{All-append, All-get_or, All-take, All-drop}
 use Rattle.byte_disk.specs.Files.{AreBytes, IsAnyIn, bytes_at, written}
 use Rattle.byte_disk.specs.Record.{change_of, unwritten, IsKept}
 
@@ -95,7 +95,14 @@ module _ (at : ℕ) (bytes old : List ℕ) (within : at ≤ length old) where
         out;
     no_shorter = omega (arith, new_length);
     no_longer = omega (arith, new_length, few);
-    bytes = λ are_old. written_bytes at bytes old are are_old;
+    each = λ i lt. ⊎_elim
+        (λ (less : i < at). inr (omega (arith, less, within), written_below at bytes old within i 0 less))
+        (λ (more : at ≤ i). ⊎_elim
+        (λ (inside : i < at + length bytes). inl (subst (λ (x : ℕ). x < 2 ^ 8) (sym (written_inside at bytes old within i 0 more inside))
+        (All-get_or (λ (b : ℕ). b < 2 ^ 8) bytes (i - at) 0 (omega (arith, more, inside)) are)))
+        (λ (behind : at + length bytes ≤ i). inr (omega (arith, lt, new_length, behind), written_above at bytes old within i 0 behind))
+        (cases_lt i (at + length bytes)))
+        (cases_lt i at);
   }
 
   -- what is kept of a write says what it may leave

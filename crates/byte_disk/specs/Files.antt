@@ -59,13 +59,15 @@ KeepsOthers Cm old new = (new.ip ≡ old.ip) × (new.dp ≡ old.dp)
 abbrev pub IsOutside : ℕ → ℕ → ℕ → Type 0
 IsOutside at n i = (i < at) ⊎ (at + n ≤ i)
 
--- Any bytes stand in the range. Outside of it each byte that was there is there. The file is no shorter than it was,
--- and no longer than it was or than the range reaches.
+-- At each place of the range any byte stands, or what stood there, so that any bytes in a range and then in the one
+-- behind it are any in both together. Outside of it each byte that was there is there. The file is no shorter than it
+-- was, and no longer than it was or than the range reaches.
 pub record IsAnyIn (at n : ℕ) (old new : List ℕ) : Type 0 where
   pub outside : (i : ℕ) → i < length old → IsOutside at n i → slice_index new i ≡ slice_index old i
   pub no_shorter : length old ≤ length new
   pub no_longer : length new ≤ max (length old) (at + n)
-  pub bytes : AreBytes old → AreBytes new
+  pub each : (i : ℕ) → i < length new
+      → (slice_index new i < 2 ^ 8) ⊎ ((i < length old) × (slice_index new i ≡ slice_index old i))
 
 -- any bytes stand in the range of one file, and all else is as it was
 pub record IsBroken (file : File) (at n : ℕ) (old new : Files) : Type 0 where

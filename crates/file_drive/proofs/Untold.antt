@@ -1,5 +1,5 @@
 -- A disk that tells nothing may leave to a crash what it could leave before.
-use Rattle.std.proofs.Common.{ℕ, ◌+◌, ◌≤◌, ◌≡◌, max, List, length, refl, inl, rules}
+use Rattle.std.proofs.Common.{ℕ, ◌+◌, ◌≤◌, ◌≡◌, max, List, length, refl, inl, inr, rules}
 use Rattle.crash_steps.specs.Crashes.{Crashes}
 use Rattle.byte_disk.specs.declared.disk.File.{File}
 use Rattle.byte_disk.specs.declared.disk.File.TheVariants.{Ip, Dp, Cm}
@@ -16,7 +16,7 @@ all_stay at n bytes = record {
   outside = λ i low away. refl;
   no_shorter = search rules;
   no_longer = search rules;
-  bytes = λ are. are;
+  each = λ i low. inr (low, refl);
 }
 
 stays : (file : File) (at n : ℕ) (d : Files) → IsBroken file at n d d
