@@ -257,7 +257,7 @@ module _ {D : Type 0} (disk : Ghosts D) where
             (λ (first : IsBlank d × (v ≡ first_value)). no_blank d size first.0)
             (λ (has : HasValue d.cm v). finds v has),
       )
-      by (Err Disk) d size finds = (refl, refl)
+      by (Err Disk) d size finds = inl refl
 
   -- a header that is too long
   pub opens_long : (n : ℕ) (a : D) → IfSome (disk.held a) (λ (d : Files). length d.cm ≡ n) → 512 < n → IsOpening disk 12 (Err Header) a a
@@ -305,7 +305,7 @@ module _ {D : Type 0} (disk : Ghosts D) where
   pub opens_not : {T E : Type 0} (m n : ℕ) (e : E) (a b : D) → m ≤ n → disk.held b ≡ disk.held a → AtMost m (disk.commands a) (disk.commands b)
       → HasCause {T = T} (disk.faults a) (disk.faults b) (Err e) → CrashesIn disk NothingNew a b → IsOpening disk n (Err Disk) a b
   opens_not m n e a b few held count cause crash = record {
-    told = λ d is. (d, held ∙ is, (refl, refl));
+    told = λ d is. (d, held ∙ is, inl refl);
     untold = λ none. held ∙ none;
     sure = tt;
     crash = λ d is. nothing_opens crash;
@@ -330,7 +330,7 @@ module _ {D : Type 0} (disk : Ghosts D) where
     told = λ d is.
         let was : disk.held b ≡ Some d = m.held ∙ is in
         let t = made.told d was in
-        (t.0, t.1, ends r end d t.0 same made.ready t.1 t.2 t.3 (short d is) (m.value d is));
+        (t.0, t.1, ends r end d t.0 same made.ready t.1 t.2 t.3 t.4 (short d is) (m.value d is));
     untold = λ none. made.untold (m.held ∙ none);
     sure = sures r end same made.ready;
     crash = λ d is. both_steps join_open m.count.later (nothing_opens m.crash)
@@ -349,12 +349,12 @@ module _ {D : Type 0} (disk : Ghosts D) where
       short d is = held_has (disk.held a) (λ (f : Files). IsShort f.cm) size d is
 
       ends : (r : Result T E) (end : Result Found OpenErr) (d e : Files) → IsMaking r end → OnOk r (IsReady disk AreEmpty IsMade c) → disk.held c ≡ Some e
-          → e.ip ≡ d.ip → e.dp ≡ d.dp → IsShort d.cm → AreEmpty d.ip d.dp → Opens end d e
-      ends (Err x) (Err Disk) d e same ready is ip dp less empty = (ip, dp)
-      ends (Err x) (Err Header) d e same ready is ip dp less empty = absurd same
-      ends (Err x) (Ok f) d e same ready is ip dp less empty = absurd same
-      ends (Ok x) (Err why) d e same ready is ip dp less empty = absurd same
-      ends (Ok x) (Ok f) d e same ready is ip dp less empty =
+          → e.ip ≡ d.ip → e.dp ≡ d.dp → HasFirst e → IsShort d.cm → AreEmpty d.ip d.dp → Opens end d e
+      ends (Err x) (Err Disk) d e same ready is ip dp first less empty = inr (record { ip = empty.0; dp = empty.1; cm = less }, ip, dp, first)
+      ends (Err x) (Err Header) d e same ready is ip dp first less empty = absurd same
+      ends (Err x) (Ok f) d e same ready is ip dp first less empty = absurd same
+      ends (Ok x) (Err why) d e same ready is ip dp first less empty = absurd same
+      ends (Ok x) (Ok f) d e same ready is ip dp first less empty =
           let side : f.side ≡ First = same.0 in
           let value : f.value ≡ first_value = same.1 in
           let beside : f.beside ≡ false = same.2 in

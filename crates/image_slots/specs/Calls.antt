@@ -79,10 +79,12 @@ pub record IsOpened (f : Found) (d e : Files) : Type 0 where
   pub kept : ¬ (IsBlank d) → e.cm ≡ d.cm
   pub made : IsBlank d → e.cm ≡ first_header
 
+-- How a disk that read as `d` reads once its value was looked for. Where the disk failed nothing has changed, or the
+-- first value was being made on a blank disk, which stores it then: a making that is cut off destroys nothing.
 abbrev pub Opens : Result Found OpenErr → Files → Files → Type 0
 Opens (Ok f) d e = IsOpened f d e
 Opens (Err Header) d e = (e ≡ d) × ((v : List ℕ) → ¬ (Stores d v))
-Opens (Err Disk) d e = (e.ip ≡ d.ip) × (e.dp ≡ d.dp)
+Opens (Err Disk) d e = (e ≡ d) ⊎ (IsBlank d × (e.ip ≡ d.ip) × (e.dp ≡ d.dp) × Stores e first_value)
 
 -- What a crash may leave while a value is looked for: nothing new, but from a blank disk one that stores the first value.
 abbrev pub WithinOpen : Files → Files → Type 0

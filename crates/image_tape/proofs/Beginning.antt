@@ -205,5 +205,6 @@ is_refused {D = D} disk limits old s new room why before after reason is same eb
     (subst (λ (r : OpenErr). IsRefused disk limits r old s) (sym (is ∙ ap (λ (n : ℕ). reason_of why n after) eb ∙ ap (λ (n : ℕ). reason_of why (disk.faults old) n) ea)) (record {
       told = λ d is_old. refused_by disk limits old room why (disk.faults old) (disk.faults s) d (read d is_old);
       untold = λ none. held ∙ none;
+      left = λ d is_old. (d, held ∙ is_old, refl);
       fault = fault_by why (disk.faults old) (disk.faults s) later cause;
     }))

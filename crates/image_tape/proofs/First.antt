@@ -1,5 +1,5 @@
 -- The files of a disk mean the same once its header was found, or made.
-use Rattle.std.proofs.Common.{◌≡◌, ℕ, ◌≤◌, inl, inr, Bool, true, false, ◌==◌, ◌&&◌, nat_lt, nat_le, List, [], length, Option, Some, None, Result, Ok, Err, IfOk, IfErr, refl, sym, ap, ◌∙◌, subst, arith}
+use Rattle.std.proofs.Common.{◌≡◌, ℕ, ◌≤◌, ⊎_elim, inl, inr, Bool, true, false, ◌==◌, ◌&&◌, nat_lt, nat_le, List, [], length, Option, Some, None, Result, Ok, Err, IfOk, IfErr, refl, sym, ap, ◌∙◌, subst, arith}
 use Rattle.std.specs.Prelude.{if◌then◌else◌}
 use Rattle.std.proofs.lemmas.Bool.{and_from, and_parts, eq-eqb, eqb-true, le-leb, lt-ltb, ltb-true}
 use Rattle.std.proofs.lemmas.List.{nil_from_length}
@@ -12,7 +12,7 @@ use Rattle.image_slots.specs.Slots.{IsBlank, Stores, first_value}
 use Rattle.image_slots.specs.declared.errors.OpenErr as slots
 use Rattle.image_slots.specs.declared.errors.OpenErr.TheVariants as slot_errors
 use Rattle.image_slots.specs.declared.sides.Found.{Found}
-use Rattle.image_slots.proofs.Choosing.{chosen_value}
+use Rattle.image_slots.proofs.Choosing.{chosen_value, value_chosen}
 use Rattle.image_format.specs.declared.refusal.Refusal.TheVariants as rh
 use Rattle.image_format.specs.Images.{blank, header, header_by, image, image_by, is_blank}
 use Rattle.image_format.specs.Values.{value_of}
@@ -58,6 +58,31 @@ same_by limits d e f false is h =
 same_image : (limits : Limits) (d e : Files) (f : Found) → IsOpened f d e → image limits e ≡ image limits d
 same_image limits d e f h = same_by limits d e f (is_blank d) refl h
 
+-- so does the value of a disk on which nothing was made
+first_reads : (limits : Limits) (cm : List ℕ) → image_by (record { ip = []; dp = []; cm = cm }) (header_by limits (Some first_value)) ≡ Ok blank
+first_reads limits cm =
+    ap (λ (t : Bool). image_by (record { ip = []; dp = []; cm = cm }) (if t && nat_le 0 limits.cap_dp then value_of first_value else None)) (le-leb 0 limits.cap_ip (omega arith))
+    ∙ ap (λ (t : Bool). image_by (record { ip = []; dp = []; cm = cm }) (if t then value_of first_value else None)) (le-leb 0 limits.cap_dp (omega arith))
+
+blank_image : (limits : Limits) (d : Files) → IsBlank d → image limits d ≡ Ok blank
+blank_image limits d none = ap (λ (t : Bool). if t then Ok blank else image_by d (header limits d.cm)) (is_blank_found d none)
+
+stored_image : (limits : Limits) (e : Files) → e.ip ≡ [] → e.dp ≡ [] → Stores e first_value → image limits e ≡ Ok blank
+stored_image limits e ip dp (inl first) = blank_image limits e first.0
+stored_image limits e ip dp (inr has) = by (is_blank e) refl
+  where
+    by : (t : Bool) → is_blank e ≡ t → image limits e ≡ Ok blank
+    by true is = absurd (omega (arith, has.size, (is_blank_only e is).cm))
+    by false is =
+        ap (λ (t : Bool). if t then Ok blank else image_by e (header limits e.cm)) is
+        ∙ ap (λ (o : Option (List ℕ)). image_by e (header_by limits o)) (value_chosen e.cm first_value has)
+        ∙ ap (λ (x : Files). image_by x (header_by limits (Some first_value))) (files_are e [] [] e.cm ip dp refl)
+        ∙ first_reads limits e.cm
+
+-- a disk on which a making was cut off means what it meant
+made_image : (limits : Limits) (d e : Files) → IsBlank d → e.ip ≡ d.ip → e.dp ≡ d.dp → Stores e first_value → image limits e ≡ image limits d
+made_image limits d e none ip dp stores = stored_image limits e (ip ∙ none.ip) (dp ∙ none.dp) stores ∙ sym (blank_image limits d none)
+
 module _ {D : Type 0} (disk : Ghosts D) where
   -- the files once the header was found
   module _ (old new : D) (f : Found) (found : IsOpening disk 14 (Ok f) old new) where
@@ -88,6 +113,9 @@ module _ {D : Type 0} (disk : Ghosts D) where
     refused_one limits why last h = record {
       told = λ d is. let t = found.told d is in refused_as limits why d t.0 (same_image limits d t.0 f t.2) (h.told t.0 t.1);
       untold = λ none. h.untold (found.untold none);
+      left = λ d is.
+          let t = found.told d is in
+          let u = h.left t.0 t.1 in (u.0, u.1, u.2 ∙ same_image limits d t.0 f t.2);
       fault = fault_as why (disk.faults old) (disk.faults new) (disk.faults last) found.faults.later h.fault;
     }
 
@@ -112,11 +140,21 @@ module _ {D : Type 0} (disk : Ghosts D) where
   header_refused limits slot_errors.Header old new found = record {
     told = λ d is. let t = found.told d is in no_header limits d t.2.1;
     untold = found.untold;
+    left = λ d is. let t = found.told d is in (t.0, t.1, ap (image limits) t.2.0);
     fault = tt;
   }
   header_refused limits slot_errors.Disk old new found = record {
     told = λ d is. tt;
     untold = found.untold;
+    left = λ d is.
+        let t = found.told d is in (
+          t.0,
+          t.1,
+          ⊎_elim
+              (λ (same : t.0 ≡ d). ap (image limits) same)
+              (λ (made : IsBlank d × (t.0.ip ≡ d.ip) × (t.0.dp ≡ d.dp) × Stores t.0 first_value). made_image limits d t.0 made.0 made.1 made.2 made.3)
+              t.2,
+        );
     fault = record { lowest = omega arith; rose = found.faults.failed; highest = omega arith };
   }
 

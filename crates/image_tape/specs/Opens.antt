@@ -60,10 +60,12 @@ HasFault before now Header = Unit {0}
 HasFault before now (Record part n) = Unit {0}
 HasFault before now (Disk counts) = IsRise before now counts.before counts.after
 
--- why no tape was opened
+-- why no tape was opened, and that the files mean what they meant
 pub record IsRefused {D : Type 0} (disk : Ghosts D) (limits : Limits) (why : OpenErr) (old new : D) : Type 0 where
   pub told : (d : Files) → disk.held old ≡ Some d → RefusedAs limits d why
   pub untold : disk.held old ≡ None → disk.held new ≡ None
+  pub left : (d : Files) → disk.held old ≡ Some d
+      → (e : Files) × (disk.held new ≡ Some e) × (image limits e ≡ image limits d)
   pub fault : HasFault (disk.faults old) (disk.faults new) why
 
 -- what is told of why nothing was read
