@@ -125,32 +125,12 @@ def sentences():
         found += compare("status" + of, [status, status], [told.status, plain.status])
         found += compare("output" + of, plain.out, told.out)
         behind = [it for it in told.lines() if it not in plain.lines()]
-        found += compare("sentences" + of, 1 if status else 0, len(behind))
+        begins = f"ltfs_server: status {status}: "
+        found += compare("sentences" + of, bool(status) + 0, sum(it.startswith(begins) for it in behind))
+        found += compare("other lines" + of, [], [it for it in behind if not it.startswith("ltfs_server: ")])
         if behind:
-            begins = f"ltfs_server: status {status}: "
-            found += compare("how it begins", begins, behind[0][:len(begins)])
+            found += compare("how the first begins", begins, behind[0][:len(begins)])
     return found
-
-
-def sentences_on_folders():
-    """At a terminal a sentence more tells of a folder of an earlier form, and what to remove before a damaged one is
-    formatted."""
-    where, older, damaged, found = ready(), fresh_folder(), fresh_folder(), []
-    (older / "ip.map").write_bytes(b"")
-    (damaged / "cm.img").write_bytes(bytes(512))
-    uuid = "30a91a08-daae-48d1-ae75-69804e61d2ea"
-    for words, status, sentence in (
-        (["list", older], 3, f"the files of {older} are of an earlier form, which is not read; "
-         "docs/FORMATS.md says how to bring them over"),
-        (["format", damaged, "TAPE01", uuid], 4, f"if no other run serves {damaged}, its files may be damaged; "
-         "remove cm.img, ip.img and dp.img there to format it"),
-    ):
-        told = run_at_terminal(["./ltfs_server", *words], where)
-        found += compare(f"status of {words[0]}", status, told.status)
-        found += compare(f"last line of {words[0]}", f"ltfs_server: {sentence}", told.lines()[-1])
-    (damaged / "cm.img").unlink()
-    ran = run(["./ltfs_server", "format", damaged, "TAPE01", uuid], where)
-    return found + compare("status of the format then", 0, ran.status)
 
 
 def ended_at_terminal():
@@ -225,7 +205,6 @@ CASES = {
     "version": version,
     "examples": examples,
     "sentences": sentences,
-    "sentences_on_folders": sentences_on_folders,
     "ended_at_terminal": ended_at_terminal,
     "folders": folders,
     "environment_is_no_matter": environment_is_no_matter,
