@@ -117,6 +117,13 @@ class Progress:
             print(file=sys.stderr)
 
 
+def tell_version(name):
+    """Prints what the launcher of the server tells of itself, with this name. Returns the status."""
+    ran = subprocess.run([str(TOP / "ltfs_server"), "--version"], stdout=subprocess.PIPE)
+    print(ran.stdout.decode(errors="replace").replace("ltfs_server", name, 1), end="")
+    return ran.returncode
+
+
 def end_with(copy, name, folder, *words):
     """Copies, and returns the status with which the program ends. Where it is told to stop, the run is ended."""
     runs = Runs(folder)
