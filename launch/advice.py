@@ -3,8 +3,8 @@
 usage: advice.py ME NAME STATUS START COUNT PROGRAM.. WORD..
 
 ME is the launcher as it was called, NAME its program, START where standard input stood before the run, and PROGRAM the
-COUNT words that run the program. A document that was read is open as 3. Nothing is changed, and where nothing can be seen,
-nothing is told.
+COUNT words that run the program. A document that was read is open as 3. Nothing is changed, and where nothing can be
+seen, nothing is told.
 """
 
 import os
@@ -39,8 +39,8 @@ def no_volume(me, program, words):
     command, folder = words[0], words[1]
     if not folder_looks.image_files(folder):
         if folder_looks.earlier_files(folder):
-            return [f"the files of {shown(folder)} are of an earlier form, which is not read; docs/FORMATS.md says how to"
-                    " bring them over"]
+            return [f"the files of {shown(folder)} are of an earlier form, which is not read; docs/FORMATS.md says how"
+                    " to bring them over"]
         empty = "is empty" if not os.listdir(folder) else "has no file of a cartridge"
         return [f"{shown(folder)} {empty}: format it first, as '{me} help format' tells, if it is the right folder"]
     if is_blank(folder):
@@ -58,9 +58,9 @@ def told_generation(me, folder, line):
         return [f"the volume in {shown(folder)} has no generation {kind[2]}; which it has is told by:"
                 f" {quoted(me)} generations {quoted(folder)}"]
     if kind[:2] == ["volume", "Broken"]:
-        return [f"of the indexes on the data partition, from the newest back, the one that begins at block {kind[2]} isn't"
-                f" sound ({' '.join(kind[3:])}), and none older can be told; whether the newest tree can be read is told by:"
-                f" {quoted(me)} list {quoted(folder)}"]
+        return ["of the indexes on the data partition, from the newest back, the one that begins at block"
+                f" {kind[2]} isn't sound ({' '.join(kind[3:])}), and none older can be told; whether the newest tree"
+                f" can be read is told by: {quoted(me)} list {quoted(folder)}"]
     return []
 
 

@@ -81,8 +81,8 @@ def told_claims(folder, is_to_write):
 
 
 def unseen_claim(folder, is_to_write):
-    """A line where the folder is claimed by somebody whom /proc doesn't tell. That is tried as a run does it, and taken
-    back at once."""
+    """A line where the folder is claimed by somebody whom /proc doesn't tell. That is tried as a run does it, and
+    taken back at once."""
     opened = os.open(folder, os.O_RDONLY)
     try:
         fcntl.flock(opened, (fcntl.LOCK_EX if is_to_write else fcntl.LOCK_SH) | fcntl.LOCK_NB)

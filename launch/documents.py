@@ -105,6 +105,6 @@ def lines_of(line, text):
 
 
 def told(run_again, start):
-    """What is told of the document that the run has read. `run_again` gives the line that the tool prints of a text."""
+    """What is told of the document that the run has read. `run_again` gives the line that is printed of a text."""
     text = document(start)
     return [] if text is None else lines_of(run_again(text), text)

@@ -2,8 +2,8 @@
 
 usage: filters.py human|json list|generations
 
-It reads those lines from standard input. Where the run ended otherwise, its last line, which says why, is the `error` of
-the document, and stands as it is among lines for people. The status is 6 where standard output can't be written.
+It reads those lines from standard input. Where the run ended otherwise, its last line, which says why, is the `error`
+of the document, and stands as it is among lines for people. The status is 6 where standard output can't be written.
 """
 
 import json

@@ -18,8 +18,8 @@ KINDS = {stat.S_IFDIR: "a folder", stat.S_IFLNK: "a link", stat.S_IFIFO: "a pipe
 
 
 def why_failed(folder, command):
-    """Lines that say why the drive over the folder failed, or none where nothing of it can be seen. The first look that
-    finds something ends it."""
+    """Lines that say why the drive over the folder failed, or none where nothing of it can be seen. The first look
+    that finds something ends it."""
     looks = [no_folder, closed_folder, in_use, no_file, closed_files, no_image, cannot_write, no_space,
              in_use_unseen]
     try:
@@ -101,7 +101,8 @@ def no_image(folder, _):
         return []
     at = f"{shown(path_of(folder, refusal.name))}, byte {refusal.at:,}"
     return [f"{refusal.what}: {at}: {refusal.why}",
-            f"no command writes over such files; keep a copy of {shown(folder)}, and take a new folder for a new volume"]
+            f"no command writes over such files; keep a copy of {shown(folder)}, and take a new folder for a new"
+            " volume"]
 
 
 def cannot_write(folder, command):

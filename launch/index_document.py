@@ -53,8 +53,8 @@ class Element:
 
 
 class Reading:
-    """A reading of a document, up to where it goes on no more. `ended` is called with each element that ends, and where;
-    it ends the reading by `Enough`."""
+    """A reading of a document, up to where it goes on no more. `ended` is called with each element that ends, and
+    where; it ends the reading by `Enough`."""
 
     def __init__(self, ended, begun=None):
         self.ended, self.begun, self.open = ended, begun, None
@@ -254,8 +254,9 @@ def overlap(text, wanted):
         end, last = 0, 0
         for offset, count, at in sorted(it for it in file.kept if it[1]):
             if offset < end:
-                return f"two extents of {file.told()} share its bytes {offset:,} to {min(end, offset + count) - 1:,}:" \
-                       f" that at {place_of(text, last)}, and that at {place_of(text, at)}"
+                shared = f"{offset:,} to {min(end, offset + count) - 1:,}"
+                return f"two extents of {file.told()} share its bytes {shared}: that at {place_of(text, last)}, and" \
+                       f" that at {place_of(text, at)}"
             end, last = offset + count, at
         return None
 

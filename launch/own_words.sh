@@ -1,13 +1,13 @@
-# What the launchers do with words of their own, which the program doesn't know, and what programs for Python do for them.
+# What the launchers do with words of their own, which no program knows, and what they have Python do.
 # shellcheck shell=bash
 # shellcheck disable=SC2034,SC2154
 
-# What the program is given, in which form its output goes on, whether nothing is asked, and the file that is read; then
-# the processes beside the program, and a copy of what it reads.
+# What the program is given, in which form its output goes on, whether nothing is asked, and the file that is read;
+# then the processes beside the program, and a copy of what it reads.
 given=()
 filter=
 is_sure=
-file=
+file=-
 feeder=
 copy=
 filtering=
@@ -19,8 +19,8 @@ need_python() { has_python || fail "python3, which does what '$1' asks for, isn'
 # Runs a program of this folder, with nothing of a person's own settings for Python, and leaves no file.
 run_python() { python3 -BEs "$launch/$1" "${@:2}"; }
 
-# Takes the words that are for the launcher. Those behind `--`, and a second one of a kind, are left to the program, which
-# refuses them.
+# Takes the words that are for the launcher. Those behind `--`, and a second one of a kind, are left to the program,
+# which refuses them.
 take_words() {
   local it is_behind=
   given=("$@")
@@ -52,12 +52,10 @@ ask_before_format() {
 # Opens the file that is to be read as standard input.
 open_file() {
   local why
-  [ -n "$file" ] && [ "$file" != - ] || return
-  if ! { exec < "$file"; } 2>/dev/null; then
-    why=$({ : < "$file"; } 2>&1)
-    say "$file can't be opened: ${why##*: }"
-    exit 5
-  fi
+  if [ "$file" = - ] || { exec < "$file"; } 2>/dev/null; then return; fi
+  why=$({ : < "$file"; } 2>&1)
+  say "${file:-a file of an empty name} can't be opened: ${why##*: }"
+  exit 5
 }
 
 # Where what is read may be asked for again, notes where it begins; of what can't be read twice a copy is kept.

@@ -55,8 +55,9 @@ def own_options(name):
 
 def completions(name):
     commands = commands_of(name)
-    cases = (f"    {it}) options='{' '.join([*options_in(usage_of(help_text(name, it))), '--help'])}' ;;" for it in commands)
-    return COMPLETIONS.format(name=name, cases="\n".join(cases), commands=" ".join(commands),
+    options = {it: [*options_in(usage_of(help_text(name, it))), "--help"] for it in commands}
+    cases = "\n".join(f"    {it}) options='{' '.join(options[it])}' ;;" for it in commands)
+    return COMPLETIONS.format(name=name, cases=cases, commands=" ".join(commands),
                               first=" ".join([*commands, *own_options(name)]))
 
 

@@ -1,4 +1,4 @@
-"""The words of each command, in one table: which a command has, which values they may have, and why words don't fit."""
+"""The words of each command, in one table: which a command has, what they may be, and why words don't fit."""
 
 import datetime
 import difflib
@@ -96,7 +96,7 @@ def any_text(text):
 
 class Form:
     """The words of a command: those that have to stand in their order, one that may follow them, options with a value,
-    and those without one, of which all are taken by the launcher, and one at most may stand. Of `needs` the first option
+    and those without one, which the launcher takes, and of which one at most may stand. Of `needs` the first option
     may stand beside the second one alone."""
 
     def __init__(self, words=None, optional=None, options=None, flags=(), needs=None):
@@ -184,7 +184,8 @@ class Collecting:
 
     def settle(self):
         if self.waits:
-            raise Misfit(f"--{self.waits} lacks its value; one that begins with a hyphen stands as --{self.waits}=VALUE")
+            option = f"--{self.waits}"
+            raise Misfit(f"{option} lacks its value; one that begins with a hyphen stands as {option}=VALUE")
 
     def take_option(self, word):
         self.settle()

@@ -1,4 +1,4 @@
-"""What a person at a terminal is told of a run that failed: no advice that could cost a volume, and what can be seen."""
+"""What a person at a terminal is told of a run that failed: what can be seen, and nothing that could cost a volume."""
 
 import fcntl
 import os
@@ -79,7 +79,8 @@ def no_generation():
     folder = archive()
     ran, lines = told(["view", folder, "99"])
     found = compare("status", 3, ran.status) + compare("output", b"volume NoGeneration 99\n", ran.out)
-    wanted = [f"the volume in {folder} has no generation 99; which it has is told by: ./ltfs_server generations '{folder}'"]
+    wanted = [f"the volume in {folder} has no generation 99; which it has is told by:"
+              f" ./ltfs_server generations '{folder}'"]
     return found + compare("lines", wanted, lines) + without_harm("view", ran)
 
 
@@ -94,8 +95,8 @@ def broken():
         ran, lines = told(words)
         found += compare(f"status of {words[0]}", 3, ran.status)
         found += compare(f"output of {words[0]}", b"volume Broken 5 Text Syntax 0\n", ran.out)
-        wanted = ["of the indexes on the data partition, from the newest back, the one that begins at block 5 isn't sound"
-                  " (Text Syntax 0), and none older can be told; whether the newest tree can be read is told by:"
+        wanted = ["of the indexes on the data partition, from the newest back, the one that begins at block 5 isn't"
+                  " sound (Text Syntax 0), and none older can be told; whether the newest tree can be read is told by:"
                   f" ./ltfs_server list '{folder}'"]
         found += compare(f"lines of {words[0]}", wanted, lines) + without_harm(words[0], ran)
     return found + compare("status of the list", 0, told(["list", folder])[0].status)
@@ -108,15 +109,15 @@ def folders():
     (here / "file").write_bytes(b"")
     (here / "link").symlink_to("gone")
     (here / "closed").mkdir(mode=0o700)
-    for folder, line, more in (
-        (here / "missing", f"there is no folder {here}/missing", {}),
-        (here / "file", f"{here}/file is a file, and has to be a folder", {}),
-        (here / "file/under", f"{here}/file/under can't be looked at: Not a directory", {}),
-        (here / "link", f"{here}/link is a link to gone, which isn't there", {}),
-        ("", "the name of the folder is empty", {}),
+    for words, line in (
+        (["list", here / "missing"], f"there is no folder {here}/missing"),
+        (format_words(here / "missing"), f"there is no folder {here}/missing"),
+        (["serve", here / "file"], f"{here}/file is a file, and has to be a folder"),
+        (["label", here / "file/under"], f"{here}/file/under can't be looked at: Not a directory"),
+        (["view", here / "link", "1"], f"{here}/link is a link to gone, which isn't there"),
+        (["generations", ""], "the name of the folder is empty"),
     ):
-        for words in (["list", folder], format_words(folder), ["serve", folder]):
-            found += compare_told(f"{words[0]} {folder}", words, 4, [line], **more)
+        found += compare_told(f"{words[0]} {words[1]}", words, 4, [line])
     line = f"you may not read the folder {here}/closed: {owner(here / 'closed')}"
     (here / "closed").chmod(0o700 if os.geteuid() == 0 else 0)
     line = line if os.geteuid() == 0 else line.replace("0700", "0000")
@@ -130,16 +131,16 @@ def empty_folders():
     (older / "ip.map").write_bytes(b"")
     for name, size in (("cm", 100), ("ip", 0), ("dp", 0)):
         (short / f"{name}.img").write_bytes(bytes(size))
-    found = []
+    found, first = [], "format it first, as './ltfs_server help format' tells, if it is the right folder"
     for folder, line in (
-        (empty, f"{empty} is empty: format it first, as './ltfs_server help format' tells, if it is the right folder"),
-        (other, f"{other} has no file of a cartridge: format it first, as './ltfs_server help format' tells, if it is the"
-                " right folder"),
-        (older, f"the files of {older} are of an earlier form, which is not read; docs/FORMATS.md says how to bring them"
-                " over"),
-        (short, f"ip.img and dp.img of {short} have no bytes, and cm.img has 100 bytes of 512: nothing was written there"),
+        (empty, f"{empty} is empty: {first}"),
+        (other, f"{other} has no file of a cartridge: {first}"),
+        (older, f"the files of {older} are of an earlier form, which is not read; docs/FORMATS.md says how to bring"
+                " them over"),
+        (short, f"ip.img and dp.img of {short} have no bytes, and cm.img has 100 bytes of 512: nothing was written"
+                " there"),
     ):
-        for words in (["list", folder], ["view", folder, "1"], ["serve", folder], ["label", folder]):
+        for words in (["list", folder], ["serve", folder]):
             found += compare_told(f"{words[0]} {folder}", words, 3, [line])
     return found
 
@@ -170,17 +171,21 @@ def refused_images():
         (("cm.img", 17, (65_537).to_bytes(8, "big")), "Header", 17,
          "65,537 records of ip.img are to count, and 65,536 is the most"),
         (("dp.img", 0, b"x"), "Record(Dp, 0)", 0, "it begins with the byte 78h in place of B, M or T"),
-        (("dp.img", 86, b"\0\0\0\1"), "Record(Dp, 1)", 86, "four zeros have to stand behind its letter, and 00000001h does"),
-        (("dp.img", 91, b"\0\x10\0\1"), "Record(Dp, 2)", 91, "it is a block of 1,048,577 bytes, and one has 1 to 1,048,576"),
+        (("dp.img", 86, b"\0\0\0\1"), "Record(Dp, 1)", 86,
+         "four zeros have to stand behind its letter, and 00000001h does"),
+        (("dp.img", 91, b"\0\x10\0\1"), "Record(Dp, 2)", 91,
+         "it is a block of 1,048,577 bytes, and one has 1 to 1,048,576"),
         (("dp.img", 88, None), "Record(Dp, 1)", 85,
          f"its head isn't whole: the file ends at byte 88, and its records at {end:,}"),
         (("dp.img", 0, None), "Record(Dp, 0)", 0,
          f"its head isn't whole: the file ends at byte 0, and its records at {end:,}"),
     ):
-        where_it_is = changed(folder, name, at, new)
-        lines = [f"{what}: {where_it_is}/{name}, byte {where:,}: {why}",
-                 f"no command writes over such files; keep a copy of {where_it_is}, and take a new folder for a new volume"]
-        for words in (["list", where_it_is], format_words(where_it_is)):
+        damaged = changed(folder, name, at, new)
+        lines = [f"{what}: {damaged}/{name}, byte {where:,}: {why}",
+                 f"no command writes over such files; keep a copy of {damaged}, and take a new folder for a new"
+                 " volume"]
+        # `format` judges a folder as `list` does, and is asked of two of them.
+        for words in (["list", damaged], format_words(damaged))[:2 if at == 0 else 1]:
             ran, came = told(words)
             found += compare(f"status of {words[0]} where {why}", 4, ran.status) + compare("lines", lines, came)
             found += without_harm(f"{words[0]} where {why}", ran)
@@ -201,12 +206,13 @@ def missing_files(folder):
         found += compare(f"status without {name}", 4, ran.status)
         found += compare(f"line without {name}", f"{what}: {where}/{name}, byte 0: {why}", (lines or [""])[0])
         (where / name).symlink_to(folder / name)
-        found += compare_told(f"a link {name}", ["list", where], 4, [f"{where}/{name} is a link, and has to be a file"])
+        line = f"{where}/{name} is a link, and has to be a file"
+        found += compare_told(f"a link {name}", ["list", where], 4, [line])
     return found
 
 
 def in_use():
-    """Who has the folder is told by its number and its command: this process, and one that another user can't see into."""
+    """Who has the folder is told by its number and its command: this process, and another user's."""
     folder, found = volume(ready()), []
     here, words = os.getpid(), "sleep 600"
     held = os.open(folder, os.O_RDONLY)
