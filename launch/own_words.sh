@@ -25,7 +25,10 @@ take_words() {
   local it is_behind=
   given=("$@")
   case $name:$#:$1 in
-    index_tool:2:check | index_tool:2:canon) given=("$1"); file=$2; return ;;
+    index_tool:2:check | index_tool:2:canon)
+      if [[ $2 != -?* ]]; then given=("$1"); file=$2; fi
+      return
+      ;;
     ltfs_server:*:list | ltfs_server:*:generations | ltfs_server:*:format) given=("${@:1:2}") ;;
     *) return ;;
   esac

@@ -3,34 +3,41 @@
 import re
 
 import index_document
-from image_reader import HEAD, Image, Refused, is_blank, path_of
+from image_reader import HEAD, LARGEST, Image, Refused, is_blank, path_of
 
 VOL1 = 80
+# The document of an index is known by its root, which begins in so many bytes.
+FRONT = 1_024
+
+
+def closed_runs(records):
+    """The runs of blocks that each end in front of a mark."""
+    run = []
+    for record in records:
+        if record[0] == "block":
+            run.append(record)
+        elif run:
+            yield run
+            run = []
 
 
 def partition_facts(image, part):
     """The VOL1 record of a partition, and the document of its last index; None in place of what it lacks."""
-    records, last, run = list(image.records(part)), None, []
+    records = list(image.records(part))
     with open(path_of(image.folder, part), "rb") as file:
-        def block(record):
+        def block(record, most=LARGEST):
             file.seek(record[1] + HEAD)
-            return file.read(record[2])
+            return file.read(min(record[2], most))
 
         first = block(records[0]) if records and records[0][0] == "block" else b""
-        for record in records:
-            if record[0] == "block":
-                run.append(record)
-                continue
-            # An index begins in the first block behind a mark, and ends with the block in front of one.
-            if run and b"<ltfsindex" in block(run[0])[:1024]:
-                last = run
-            run = []
-        text = b"".join(map(block, last)) if last else None
-    return first if len(first) == VOL1 and first.startswith(b"VOL1") else None, text
+        runs = reversed(list(closed_runs(records)))
+        last = next((it for it in runs if b"<ltfsindex" in block(it[0], FRONT)), ())
+        text = b"".join(map(block, last))
+    return first if len(first) == VOL1 and first.startswith(b"VOL1") else None, text or None
 
 
 def index_facts(text):
-    """The generation of an index, and the name of its root."""
+    """The generation of an index, and the name of its root, for which most indexes are read at their front alone."""
     found = {}
 
     def look(element):
@@ -39,6 +46,7 @@ def index_facts(text):
             found["generation"] = above.number("generationnumber")
         if element.tag == "name" and above and above.parent and above.parent.tag == "ltfsindex":
             found["name"] = above.first("name")
+        return len(found) == 2
 
     index_document.found_in(text, look)
     return found.get("generation", 0), found.get("name", "")

@@ -97,11 +97,11 @@ def any_text(text):
 class Form:
     """The words of a command: those that have to stand in their order, one that may follow them, options with a value,
     and those without one, which the launcher takes, and of which one at most may stand. Of `needs` the first option
-    may stand beside the second one alone."""
+    may stand beside the second one alone. With an end, words that are no options may stand behind `--`."""
 
-    def __init__(self, words=None, optional=None, options=None, flags=(), needs=None):
+    def __init__(self, words=None, optional=None, options=None, flags=(), needs=None, has_end=True):
         self.words, self.optional, self.options = words or {}, optional or {}, options or {}
-        self.flags, self.needs = flags, needs
+        self.flags, self.needs, self.has_end = flags, needs, has_end
 
 
 AT = {"at": moment}
@@ -120,8 +120,8 @@ COMMANDS = {
         "make": Form({**FOLDER, "N": count}, options=AT),
     },
     "index_tool": {
-        "check": Form(optional={"FILE": any_text}),
-        "canon": Form(optional={"FILE": any_text}),
+        "check": Form(optional={"FILE": any_text}, has_end=False),
+        "canon": Form(optional={"FILE": any_text}, has_end=False),
     },
 }
 
@@ -141,8 +141,14 @@ def misfit(program, words):
         command = named(program, words)
         judge(COMMANDS[program][command], words[1:])
     except Misfit as why:
-        return str(why)
+        return str(why) + taken_as_folder(words)
     return None
+
+
+def taken_as_folder(words):
+    """What is added where what looks like an option stands in place of the folder."""
+    stands = len(words) > 1 and words[0] in COMMANDS["ltfs_server"] and words[0] != "plain" and words[1][:2] == "--"
+    return f"; '{words[1]}' is taken as DIR there" if stands else ""
 
 
 def named(program, words):
@@ -228,7 +234,7 @@ def collected(form, words, found):
     for word in words:
         if is_behind or not word.startswith("-") or word == "-":
             so_far.take_word(word)
-        elif word == "--":
+        elif word == "--" and form.has_end:
             so_far.settle()
             is_behind = True
         else:

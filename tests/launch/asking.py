@@ -89,8 +89,10 @@ def words_fit():
     found = compare("words that the program takes", len(rows(GOOD)) * [True] + len(rows(BAD)) * [False], came)
     for words, fits in zip(lists, came):
         found += compare(f"whether {words} fit", fits, forms.misfit("ltfs_server", words) is None)
-    for words, fits in ((["check"], True), (["canon"], True), (["fly"], False), (["check", "a", "b"], False),
-                        (["canon", "-", "--"], True)):
+    for words, fits in ((["check"], True), (["canon", "-"], True), (["fly"], False), (["check", "a", "b"], False),
+                        (["canon", "-", "--"], False), (["check", "--"], False), (["check", "-x"], False)):
+        ran = run([ready() / "index_tool", *words], here, (TOP / "examples/archive.xml").read_bytes())
+        found += compare(f"status of {words}", 0 if fits else 1, ran.status)
         found += compare(f"whether {words} of index_tool fit", fits, forms.misfit("index_tool", words) is None)
     return found + compare("what is said of bytes", "the bytes of word 2 are no UTF-8",
                            forms.misfit("ltfs_server", ["list", "\udcff"]))
@@ -129,6 +131,8 @@ def words_at_terminal():
         (["serve", "d", "--at", "now"],
          ["--at can't be 'now': it is no time of the form 2024-01-02T03:04:05.000000000Z, of the years 1970 to 9999",
           "usage: ltfs_server serve DIR [--at TIME]"]),
+        (["list", "--json", "d"], ["unexpected word 'd'; '--json' is taken as DIR there",
+                                   "usage: ltfs_server list DIR [--human | --json]"]),
         (["make", "d", "2000"],
          ["N can't be '2000': N has to be 1 to 1,024", "usage: ltfs_server make DIR N [--at TIME]"]),
         (["view", "d", "1", "--read"],
@@ -176,6 +180,7 @@ def index_files():
         (["canon", "a b.xml"], b"", 0, canon), (["check", "."], b"", 5, b"source 0 1\n"),
         (["check", "missing"], text, 5, b""), (["check", "a b.xml", "more"], b"", 1, b"words\n"),
         (["fly", "a b.xml"], b"", 1, b"words\n"), (["check", ""], text, 5, b""),
+        (["check", "--ok"], text, 1, b"words\n"),
     ):
         ran = run([tool, *words], here, given)
         found += compare(f"status of {words}", status, ran.status) + compare(f"output of {words}", out, ran.out)
