@@ -6,7 +6,8 @@
  * Counted are open, statx, pread, pwrite, fsync, fdatasync and flock, of the folder and of what was opened in it. The
  * Nth does what the word says, none where N is 0: `fail` (no space, half of the bytes of a write put), `interrupt`
  * (EINTR, once), `again` (EAGAIN, once), `short` (half of the bytes of a read or a write), `kill` (the process is
- * killed in front of it). FILE gets a letter for each call.
+ * killed in front of it), `hold` (the process stops in front of it until it is told to go on). FILE gets a letter for
+ * each call.
  *
  * Without FOLDER the reads of standard input and the writes to standard output are counted in place of these.
  */
@@ -16,6 +17,7 @@
 #include <fcntl.h>
 #include <signal.h>
 #include <stdarg.h>
+#include <stdio.h>
 #include <stdlib.h>
 #include <string.h>
 #include <sys/stat.h>
@@ -33,6 +35,9 @@ static int is_ours(int fd)
 static int is_within(const char *path)
 {
 	const char *folder = getenv("FOLDER");
+	int fd;
+	if (sscanf(path, "/proc/self/fd/%d", &fd) == 1)
+		return is_ours(fd);
 	return folder && strncmp(path, folder, strlen(folder)) == 0;
 }
 
@@ -50,6 +55,8 @@ static char word_for(char letter)
 		return 0;
 	if (how && how[0] == 'k')
 		kill(getpid(), SIGKILL);
+	if (how && how[0] == 'h')
+		kill(getpid(), SIGSTOP);
 	errno = how && how[0] == 'i' ? EINTR : how && how[0] == 'a' ? EAGAIN : ENOSPC;
 	return how ? how[0] : 0;
 }

@@ -24,6 +24,9 @@ pub trait FolderCalls: Files + AllocGlobal + Drop {
     /// Claims an open folder until it is closed. It fails where another program's claim forbids it.
     fn claim(&self, folder: &Self::File, claim: Claim) -> io::Result<()>;
 
+    /// A path that leads to an open folder whatever its name has become, or to nothing where the system has none.
+    fn path_to(&self, folder: &Self::File) -> io::Result<String>;
+
     /// Fills the buffer with the bytes of a file from a place on.
     fn read_at(&self, file: &Self::File, at: u64, buf: &mut [u8]) -> io::Result<()>
         ensures { length buf.new ≡ length buf.old };
@@ -46,6 +49,10 @@ impl FolderCalls for HostRuntime {
             Claim::Alone => Ok(folder.try_lock()?),
             Claim::Shared => Ok(folder.try_lock_shared()?),
         }
+    }
+
+    fn path_to(&self, folder: &File) -> io::Result<String> {
+        Ok(format!(in self.alloc(); "/proc/self/fd/{}", folder.as_raw_fd())?)
     }
 
     fn read_at(&self, file: &File, at: u64, buf: &mut [u8]) -> io::Result<()> {

@@ -2,21 +2,24 @@
 ghost use Rattle.std.specs.Prelude.{◌≡◌, length};
 
 use crate::calls::{Claim, FolderCalls};
+use crate::claimed::Claimed;
 use crate::image_files::{ImageFiles, name_of};
 use byte_disk::File;
-use std::fs::{self, OpenFile, OpenOptions};
 use std::io::{self, ErrorKind};
 use tape_types::NoMemory;
 
-/// A folder that the first call opens and claims. Each of its files is opened by the first call on it, to be read, and
-/// once more by the first one that writes to it. Where the claim is shared, each call that writes fails.
+/// A folder that the first call opens and claims. Each of its files is opened by the first call on it: to be read, and
+/// where the claim is for one alone to be written, too. One that is missing is made by the first call that writes to it.
+/// Where the claim is shared, each call that writes fails.
 #[derive(Drop)]
 pub struct Folder<R: FolderCalls> {
     rt: R,
     path: String,
     claim: Claim,
-    folder: Option<R::File>,
+    claimed: Option<Claimed<R>>,
     files: ImageFiles<R>,
+    /// Whether it is durable which files the folder has. Nothing is written to a file before that.
+    is_listed: bool,
     /// Whether a sync has failed. What the system has stored since then isn't known.
     is_unsure: bool,
 }
@@ -28,8 +31,9 @@ impl<R: FolderCalls> Folder<R> {
             rt,
             path,
             claim,
-            folder: None,
+            claimed: None,
             files,
+            is_listed: false,
             is_unsure: false,
         })
     }
@@ -58,7 +62,11 @@ impl<R: FolderCalls> Folder<R> {
         }
         let synced = self.files.of_mut(file).sync(&self.rt);
         self.is_unsure = synced.is_err();
-        synced
+        synced?;
+        match file {
+            File::Cm if self.is_listed => self.files.look(&self.rt),
+            _ => Ok(()),
+        }
     }
 
     // Looks for a file, if it wasn't looked for.
@@ -67,66 +75,62 @@ impl<R: FolderCalls> Folder<R> {
         if self.files.of(file).is_found() {
             return Ok(());
         }
-        let found = self.open(file, false)?;
-        self.files.of_mut(file).found(found)
+        let to_write = matches!(self.claim, Claim::Alone);
+        let found = match &self.claimed {
+            Some(folder) => folder.find(&self.rt, name_of(file), to_write)?,
+            None => return Err(ErrorKind::NotFound.into()),
+        };
+        self.files.of_mut(file).found(found);
+        Ok(())
     }
 
-    // The same, and opens it for writing. One that is missing is made.
+    // The same of a file that is to be written. One that is missing is made.
     fn find_to_write(&mut self, file: File) -> io::Result<()> {
         self.find(file)?;
-        if self.files.of(file).is_writable() {
-            return Ok(());
-        }
         if let Claim::Shared = self.claim {
             return Err(ErrorKind::PermissionDenied.into());
         }
-        let Some(found) = self.open(file, true)? else {
-            return Err(ErrorKind::NotFound.into());
-        };
-        self.sync_folder()?;
-        self.files.of_mut(file).found_to_write(found);
-        Ok(())
+        if self.files.of(file).is_missing() {
+            self.make(file)?;
+        }
+        if !self.files.of(file).is_writable() {
+            return Err(ErrorKind::PermissionDenied.into());
+        }
+        self.list()
     }
 
     // Opens the folder and claims it, if it isn't open.
     fn enter(&mut self) -> io::Result<()> {
-        if self.folder.is_some() {
-            return Ok(());
+        if self.claimed.is_none() {
+            self.claimed = Some(Claimed::enter(&self.rt, self.path.as_str(), self.claim)?);
         }
-        let path = self.path.as_str();
-        if !fs::metadata(&self.rt, path)?.is_dir() {
-            return Err(ErrorKind::NotADirectory.into());
-        }
-        let folder = self.rt.open_apart(OpenOptions::new().read(true), path)?;
-        self.rt.claim(&folder, self.claim)?;
-        self.folder = Some(folder);
         Ok(())
     }
 
-    // Makes durable which files the folder has.
-    fn sync_folder(&mut self) -> io::Result<()> {
-        let Some(folder) = &self.folder else {
-            return Err(ErrorKind::NotFound.into());
+    fn make(&mut self, file: File) -> io::Result<()> {
+        let made = match &self.claimed {
+            Some(folder) => folder.make(&self.rt, name_of(file))?,
+            None => return Err(ErrorKind::NotFound.into()),
         };
+        self.files.of_mut(file).found(Some(made));
+        self.is_listed = false;
+        Ok(())
+    }
+
+    // Makes durable which files the folder has, if it isn't so.
+    fn list(&mut self) -> io::Result<()> {
+        if self.is_listed {
+            return Ok(());
+        }
         if self.is_unsure {
             return Err(ErrorKind::Other.into());
         }
-        let synced = folder.sync_all();
+        let synced = match &self.claimed {
+            Some(folder) => folder.sync(),
+            None => Err(ErrorKind::NotFound.into()),
+        };
+        self.is_listed = synced.is_ok();
         self.is_unsure = synced.is_err();
         synced
-    }
-
-    // What isn't a regular file is refused: it might never answer.
-    fn open(&self, file: File, to_write: bool) -> io::Result<Option<R::File>> {
-        let path = format!(in self.rt.alloc(); "{}/{}", self.path.as_str(), name_of(file))?;
-        match fs::symlink_metadata(&self.rt, path.as_str()) {
-            Ok(found) if !found.is_file() => return Err(ErrorKind::Unsupported.into()),
-            Err(error) if error.kind() != ErrorKind::NotFound => return Err(error),
-            Err(_) if !to_write => return Ok(None),
-            Ok(_) | Err(_) => {}
-        }
-        let mut how = OpenOptions::new();
-        how.read(true).write(to_write).create(to_write);
-        Ok(Some(self.rt.open_apart(&how, path.as_str())?))
     }
 }

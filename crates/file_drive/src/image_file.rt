@@ -3,8 +3,8 @@ ghost use Rattle.std.specs.Prelude.{◌≡◌, length};
 
 use crate::ahead::Ahead;
 use crate::calls::FolderCalls;
+use crate::stored_file::StoredFile;
 use std::alloc::Global;
-use std::fs::OpenFile;
 use std::io::{self, ErrorKind};
 use tape_types::NoMemory;
 
@@ -14,9 +14,8 @@ const LAST_END: u64 = 1 << 62;
 /// A file, and the bytes that it is to have. Nobody else changes it, so it is asked for its length once.
 #[derive(Drop)]
 pub struct ImageFile<R: FolderCalls> {
-    file: Option<R::File>,
+    stored: Option<StoredFile<R>>,
     is_found: bool,
-    is_writable: bool,
     /// Whether a sync has succeeded, and nothing was written since.
     is_durable: bool,
     /// How many bytes it has with those that are held back.
@@ -33,9 +32,8 @@ impl<R: FolderCalls> ImageFile<R> {
     /// A file that wasn't looked for yet. It holds back at most so many bytes.
     pub fn new(alloc: Global, most: usize) -> Result<ImageFile<R>, NoMemory> {
         Ok(ImageFile {
-            file: None,
+            stored: None,
             is_found: false,
-            is_writable: false,
             is_durable: false,
             length: 0,
             held_from: 0,
@@ -50,25 +48,26 @@ impl<R: FolderCalls> ImageFile<R> {
         self.is_found
     }
 
-    pub fn is_writable(&self) -> bool {
-        self.is_writable
+    /// Whether it was looked for, and isn't there.
+    pub fn is_missing(&self) -> bool {
+        self.is_found && self.stored.is_none()
     }
 
-    /// Takes the file that was found, if there is one.
-    pub fn found(&mut self, file: Option<R::File>) -> io::Result<()> {
-        self.length = match &file {
-            Some(file) => file.metadata()?.len(),
+    pub fn is_writable(&self) -> bool {
+        match &self.stored {
+            Some(stored) => stored.is_writable(),
+            None => false,
+        }
+    }
+
+    /// Takes the file that was found or made, if there is one.
+    pub fn found(&mut self, stored: Option<StoredFile<R>>) {
+        self.length = match &stored {
+            Some(stored) => stored.length(),
             None => 0,
         };
-        self.file = file;
+        self.stored = stored;
         self.is_found = true;
-        Ok(())
-    }
-
-    /// Takes the same file, open for writing.
-    pub fn found_to_write(&mut self, file: R::File) {
-        self.file = Some(file);
-        self.is_writable = true;
     }
 
     /// How many bytes it has.
@@ -91,8 +90,8 @@ impl<R: FolderCalls> ImageFile<R> {
             self.write_out(rt)?;
         }
         let written = self.written();
-        match &self.file {
-            Some(file) => self.ahead.read(rt, file, at, buf, written),
+        match &self.stored {
+            Some(stored) => self.ahead.read(rt, stored.file(), at, buf, written),
             None => Err(ErrorKind::UnexpectedEof.into()),
         }
     }
@@ -110,7 +109,10 @@ impl<R: FolderCalls> ImageFile<R> {
         self.is_durable = false;
         self.ahead.forget(at, end);
         if bytes.len() > self.most {
-            self.write_at(rt, at, bytes)?;
+            match &mut self.stored {
+                Some(stored) => stored.write_at(rt, at, bytes)?,
+                None => return Err(ErrorKind::NotFound.into()),
+            }
         } else {
             self.held.extend_from_slice(bytes)?;
         }
@@ -124,11 +126,19 @@ impl<R: FolderCalls> ImageFile<R> {
         if self.is_durable {
             return Ok(());
         }
-        if let Some(file) = &self.file {
-            file.sync_data()?;
+        if let Some(stored) = &self.stored {
+            stored.sync()?;
         }
         self.is_durable = true;
         Ok(())
+    }
+
+    /// Fails where it isn't as it was left.
+    pub fn look(&mut self, rt: &R) -> io::Result<()> {
+        match &mut self.stored {
+            Some(stored) => stored.look(rt),
+            None => Ok(()),
+        }
     }
 
     // How many bytes of it nothing that is held back is put in place of or behind.
@@ -151,16 +161,12 @@ impl<R: FolderCalls> ImageFile<R> {
         if self.held.is_empty() {
             return Ok(());
         }
-        self.write_at(rt, self.held_from, self.held.as_slice())?;
+        match &mut self.stored {
+            Some(stored) => stored.write_at(rt, self.held_from, self.held.as_slice())?,
+            None => return Err(ErrorKind::NotFound.into()),
+        }
         self.held_from = self.length;
         self.held.clear();
         Ok(())
-    }
-
-    fn write_at(&self, rt: &R, at: u64, bytes: &[u8]) -> io::Result<()> {
-        match &self.file {
-            Some(file) => rt.write_at(file, at, bytes),
-            None => Err(ErrorKind::NotFound.into()),
-        }
     }
 }

@@ -3,6 +3,7 @@ use crate::calls::FolderCalls;
 use crate::image_file::ImageFile;
 use byte_disk::File;
 use std::alloc::Global;
+use std::io;
 use tape_types::NoMemory;
 
 /// How many bytes of a partition are held back at most: two records of the usual block, or one of the greatest.
@@ -41,6 +42,13 @@ impl<R: FolderCalls> ImageFiles<R> {
             File::Dp => &mut self.dp,
             File::Cm => &mut self.cm,
         }
+    }
+
+    /// Fails where one of them isn't as it was left: gone, another one, or of another length.
+    pub fn look(&mut self, rt: &R) -> io::Result<()> {
+        self.ip.look(rt)?;
+        self.dp.look(rt)?;
+        self.cm.look(rt)
     }
 }
 

@@ -6,12 +6,14 @@
 
 mod ahead;
 mod calls;
+mod claimed;
 mod disk;
 mod drive;
 mod folder;
 mod image_file;
 mod image_files;
 mod stage;
+mod stored_file;
 mod tape;
 
 pub use calls::{Claim, FolderCalls};
