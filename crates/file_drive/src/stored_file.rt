@@ -121,9 +121,12 @@ impl<R: FolderCalls> StoredFile<R> {
         Ok(())
     }
 
-    /// Makes it durable.
+    /// Makes it durable. One that isn't open for writing may lie where nothing can be, and needn't be.
     pub fn sync(&self) -> io::Result<()> {
-        self.file.sync_data()
+        match self.file.sync_data() {
+            Err(error) if self.is_writable || !is_unsyncable(&error) => Err(error),
+            Ok(()) | Err(_) => Ok(()),
+        }
     }
 
     /// Fails, now and from then on, where its path leads to no file or to another one, or its length is another one.
@@ -146,6 +149,14 @@ impl<R: FolderCalls> StoredFile<R> {
         }
         Ok(())
     }
+}
+
+/// Whether the system has no syncs of what was to be synced.
+pub fn is_unsyncable(error: &io::Error) -> bool {
+    matches!(
+        error.kind(),
+        ErrorKind::InvalidInput | ErrorKind::ReadOnlyFilesystem
+    )
 }
 
 // Whether a file may not be written by whoever asks, or lies where nothing is written.
