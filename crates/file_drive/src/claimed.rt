@@ -1,6 +1,6 @@
 // The folder that was claimed.
 use crate::calls::{Claim, FolderCalls};
-use crate::stored_file::{Node, StoredFile};
+use crate::stored_file::{Node, StoredFile, is_unsyncable};
 use std::fs::{self, OpenFile, OpenOptions};
 use std::io::{self, ErrorKind};
 
@@ -55,6 +55,19 @@ impl<R: FolderCalls> Claimed<R> {
     /// Makes durable which files the folder has.
     pub fn sync(&self) -> io::Result<()> {
         self.folder.sync_all()
+    }
+
+    /// The same, and that the folder is there, if the system lets what it lies in be opened and synced.
+    pub fn sync_with_parent(&self, rt: &R) -> io::Result<()> {
+        self.sync()?;
+        let path = self.path_of(rt, "..")?;
+        let Ok(parent) = rt.open_apart(OpenOptions::new().read(true), path.as_str()) else {
+            return Ok(());
+        };
+        match parent.sync_all() {
+            Err(error) if !is_unsyncable(&error) => Err(error),
+            Ok(()) | Err(_) => Ok(()),
+        }
     }
 
     fn path_of(&self, rt: &R, name: &str) -> io::Result<String> {

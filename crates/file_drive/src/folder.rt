@@ -20,6 +20,8 @@ pub struct Folder<R: FolderCalls> {
     files: ImageFiles<R>,
     /// Whether it is durable which files the folder has. Nothing is written to a file before that.
     is_listed: bool,
+    /// Whether its first file was made last. Then the folder may be new itself.
+    is_new: bool,
     /// Whether a sync has failed. What the system has stored since then isn't known.
     is_unsure: bool,
 }
@@ -34,6 +36,7 @@ impl<R: FolderCalls> Folder<R> {
             claimed: None,
             files,
             is_listed: false,
+            is_new: false,
             is_unsure: false,
         })
     }
@@ -114,6 +117,7 @@ impl<R: FolderCalls> Folder<R> {
         };
         self.files.of_mut(file).found(Some(made));
         self.is_listed = false;
+        self.is_new = matches!(file, File::Cm);
         Ok(())
     }
 
@@ -126,6 +130,7 @@ impl<R: FolderCalls> Folder<R> {
             return Err(ErrorKind::Other.into());
         }
         let synced = match &self.claimed {
+            Some(folder) if self.is_new => folder.sync_with_parent(&self.rt),
             Some(folder) => folder.sync(),
             None => Err(ErrorKind::NotFound.into()),
         };
