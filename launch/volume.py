@@ -1,85 +1,238 @@
-"""What ltfs_put and ltfs_get share: runs of `ltfs_server serve` over scripts, and how they end."""
+"""What ltfs_put and ltfs_get share: runs of ltfs_server over the volume in a folder, and how they end."""
 
+import contextlib
+import fcntl
+import os
 import pathlib
 import signal
 import subprocess
 import sys
 import threading
+import time
+
+import scripts
 
 TOP = pathlib.Path(__file__).resolve().parents[1]
-# The limits of a script, as docs/FORMATS.md tells them.
-CALLS = 1_024
-SCRIPT_BYTES = 16_777_216
-WRITE_BYTES = 65_536
-READ_BYTES = 1_048_576
-ALL_BYTES = 67_108_864
-
-# Where a call was refused by a run that ended with 0.
+# Where a call was refused, or the volume was changed by another program.
 REFUSED = 9
+# Where all was copied but what is listed.
+LEFT_OUT = 10
 SIGNALS = (signal.SIGINT, signal.SIGTERM, signal.SIGHUP)
+WAIT = 10
+# How a command ends that can't have its claim of the folder, and how often it is begun again where the folder is free
+# by the time that is seen.
+NO_CLAIM = b"drive 0 1"
+SPARE = 5
+
+ENDS = {
+    1: "the folder is none that ltfs_server takes",
+    2: "the path is of no form",
+    3: "the folder holds no volume that can be read",
+    4: "the drive over the folder failed",
+    5: "the server could not read its script",
+    6: "the server could not write its log",
+    7: "there was too little memory",
+    8: "the volume has too little space for its index",
+}
+REASONS = {
+    b"no BadName": "its name can't be one on a volume",
+    b"no Root": "it is the root",
+    b"no NotFound": "nothing stands there",
+    b"no NotDir": "a part of its path is no directory",
+    b"no IsDir": "a directory stands there",
+    b"no IsLink": "a symbolic link stands there",
+    b"no Exists": "something stands there already",
+    b"no NotEmpty": "a directory that isn't empty stands there",
+    b"no TooLong": "it is longer than a file of a volume may be",
+    b"no TooMany": "the volume has as many files and directories as it may have",
+    b"no Damaged": "the volume has lost bytes of it",
+    b"full": "the volume is full",
+    b"fault": "the drive failed",
+    b"nomemory": "there was too little memory",
+}
 
 
 class Failure(Exception):
-    """Why a file was not copied: a line, and the status to end with."""
+    """Why all was not copied: a line, and the status to end with."""
 
     def __init__(self, line, status):
         super().__init__(line)
         self.line, self.status = line, status
 
 
-def escaped(path):
-    """Returns the path as a script has it: each byte that could be taken for something else as `%` and two digits."""
-    plain = b"/!\"#$&'()*+,-.:;<=>?@[\\]^_`{|}~"
-    each = (bytes([it]) if bytes([it]).isalnum() or it in plain else b"%%%02X" % it for it in path)
-    return b"".join(each)
+def reason(call, why=None):
+    """Why a call was refused, with the volume's line behind."""
+    first = call.reply.split(b" ", 1)[0]
+    return f"{why or REASONS.get(call.reply) or REASONS.get(first, 'it was refused')} ({call.told()})"
+
+
+def shown(path):
+    """A path as a person may see it, also where a byte of it is none of a text."""
+    text = path.decode(errors="backslashreplace") if isinstance(path, bytes) else str(path)
+    return "".join(it if it.isprintable() else it.encode("unicode_escape", "backslashreplace").decode() for it in text)
+
+
+def path_of(word):
+    """The path that a word of the command line names, in bytes."""
+    path = os.fsencode(word)
+    names = path.split(b"/")[1:] if path != b"/" else []
+    try:
+        path.decode()
+    except UnicodeDecodeError:
+        names = [b""]
+    if not path.startswith(b"/") or not all(names):
+        raise Failure(f"PATH is '/', or '/NAME' once or more, in UTF-8, and {shown(path)} isn't", 2)
+    return path
+
+
+@contextlib.contextmanager
+def only_copier(folder, wait):
+    """Sees that no other ltfs_put copies into the folder meanwhile. The lock is on a file of the image, since the
+    server's own is on the folder."""
+    try:
+        handle = os.open(os.path.join(folder, "cm.img"), os.O_RDONLY)
+    except OSError:
+        yield  # the server tells what is wrong there
+        return
+    try:
+        until = time.monotonic() + wait
+        while not has_lock(handle, fcntl.LOCK_EX):
+            if time.monotonic() >= until:
+                raise Failure(f"another ltfs_put copies into {shown(folder)}: let it end, or wait longer by --wait", 4)
+            time.sleep(0.05)
+        yield
+    finally:
+        os.close(handle)
+
+
+def has_lock(handle, kind):
+    try:
+        fcntl.flock(handle, kind | fcntl.LOCK_NB)
+    except BlockingIOError:
+        return False
+    except OSError:
+        pass  # a file system without locks
+    return True
+
+
+def is_claimed(folder, kind):
+    """Whether another program's claim on the folder keeps one of this kind off."""
+    try:
+        handle = os.open(folder, os.O_RDONLY | os.O_DIRECTORY)
+    except OSError:
+        return False
+    try:
+        return not has_lock(handle, kind)
+    finally:
+        os.close(handle)
+
+
+class Listing:
+    """The tree of a volume: the kind and the length of each node by its path, `d`, `f` or `l`."""
+
+    def __init__(self):
+        self.kinds, self.lengths = {}, {}
+
+    def take(self, line):
+        words = line.split(b" ")
+        if words[0] == b"f" and len(words) == 4:
+            path = scripts.unescaped(words[3])
+            self.kinds[path], self.lengths[path] = b"f", int(words[2])
+        elif words[0] in (b"d", b"l") and len(words) >= 3:
+            self.kinds[scripts.unescaped(words[2])] = words[0]
 
 
 class Runs:
     """Runs of the server over the volume in a folder. What the launcher says is passed on once."""
 
-    def __init__(self, folder):
-        self.folder = folder
+    def __init__(self, name, folder, wait=WAIT):
+        self.name, self.folder, self.wait = name, folder, wait
         self.said = set()
-        self.server = None
+        self.generation = self.server = None
 
-    def replies(self, calls):
-        """Runs the calls in one session, and yields each one's reply. Where one or the run is refused, it raises the
-        failure with the line that the server printed."""
-        words = [str(TOP / "ltfs_server"), "serve", self.folder]
+    def listing(self):
+        """The tree of the volume. Every later run has to go on from its generation."""
+        found = Listing()
+        for line in self.lines("list", fcntl.LOCK_SH):
+            if line.startswith(b"generation "):
+                self.generation = int(line.split(b" ")[1])
+            else:
+                found.take(line)
+        return found
+
+    def replies(self, script):
+        """Runs the calls, and yields each one as its reply comes. Behind the last one it is seen that nobody else has
+        changed the volume since the run before."""
+        closed = None
+        for line in self.lines("serve", fcntl.LOCK_EX, script.text()):
+            if line.startswith(b"closed "):
+                closed = int(line.split(b" ")[1])
+                continue
+            call = script.take(line)
+            if call:
+                yield call
+        before, self.generation = self.generation, closed
+        if before is not None and closed not in script.generations(before):
+            raise Failure("another program has changed the volume meanwhile, so what was copied may not be whole;"
+                          f" copy it again (generation {before}, and behind the next run {closed})", REFUSED)
+
+    def lines(self, command, claim, script=b""):
+        """Runs a command, and yields the lines that it prints. A folder that is in use is waited for."""
+        until, spare = time.monotonic() + self.wait, SPARE
+        while True:
+            nth, line = -1, b""
+            for nth, line in enumerate(self.lines_of_run(command, script)):
+                yield line
+            status = self.server.returncode
+            if status == 0:
+                return
+            if nth != 0 or line != NO_CLAIM or not os.path.isdir(self.folder):
+                raise self.failure(status, line)
+            if not self.await_claim(claim, until):
+                spare -= 1
+                if spare == 0:
+                    raise self.failure(status, line)
+                time.sleep(0.05)
+
+    def await_claim(self, claim, until):
+        """Waits while another program has the folder, and returns whether one had it."""
+        told = False
+        while is_claimed(self.folder, claim):
+            if time.monotonic() >= until:
+                raise Failure(f"another program uses {shown(self.folder)}: let it end, or wait longer by --wait"
+                              f" ({NO_CLAIM.decode()})", 4)
+            if not told and sys.stderr.isatty():
+                print(f"{self.name}: another program uses {shown(self.folder)}; this one waits", file=sys.stderr)
+            told = True
+            time.sleep(0.05)
+        return told
+
+    def failure(self, status, line):
+        if status < 0:
+            return Failure(f"signal {-status} ended ltfs_server", 128 - status)
+        line = line.decode(errors="backslashreplace")
+        return Failure(f"{ENDS.get(status, 'ltfs_server could not be run')} ({line or f'status {status}'})", status)
+
+    def lines_of_run(self, command, script):
+        words = [str(TOP / "ltfs_server"), command, self.folder]
         pipes = {"stdin": subprocess.PIPE, "stdout": subprocess.PIPE, "stderr": subprocess.PIPE}
-        with subprocess.Popen(words, **pipes) as self.server:
+        try:
+            self.server = subprocess.Popen(words, **pipes)
+        except OSError as error:
+            raise Failure(f"ltfs_server can't be run: {error.strerror}", 125) from error
+        with self.server:
             try:
-                yield from self.read_replies(calls)
+                passing = threading.Thread(target=self.pass_on, args=[self.server.stderr], daemon=True)
+                passing.start()
+                self.send(script)
+                for line in self.server.stdout:
+                    yield line.rstrip(b"\n")
+                self.server.wait()
+                passing.join()
             except BaseException:
                 # A server that still reads must not take a part of a script for the whole.
                 self.server.terminate()
                 raise
-
-    def read_replies(self, calls):
-        passing = threading.Thread(target=self.pass_on, args=[self.server.stderr], daemon=True)
-        passing.start()
-        self.send(b"".join(b"1 %s\n" % it for it in calls))
-        refused = last = b""
-        for nth, line in enumerate(self.server.stdout):
-            last = line.rstrip(b"\n")
-            if nth < len(calls) and last.startswith(b"%d 1.%d " % (nth, nth)):
-                reply = last.split(b" ", 2)[2]
-                is_done = reply.split(b" ")[0] not in (b"no", b"full", b"fault", b"nomemory")
-                if is_done and not refused:
-                    yield reply
-                elif not is_done and not self.forgives(calls[nth], reply):
-                    refused = refused or b"%s (%s)" % (last, shown(calls[nth]))
-        status = self.server.wait()
-        passing.join()
-        if status < 0:
-            raise Failure(f"signal {-status} ended ltfs_server", 128 - status)
-        if refused or status:
-            raise Failure((refused or last).decode(errors="backslashreplace"), status or REFUSED)
-
-    @staticmethod
-    def forgives(call, reply):
-        """Whether that a call was refused is no failure: a file that is to be made may stand there."""
-        return call.startswith(b"create ") and reply == b"no Exists"
 
     def send(self, script):
         try:
@@ -96,25 +249,13 @@ class Runs:
                 sys.stderr.flush()
 
 
-def shown(call):
-    """A call without the bytes of a write."""
-    return b" ".join(call.split(b" ")[:2])
-
-
-class Progress:
-    """Tells at a terminal how many bytes are copied."""
-
-    def __init__(self, name, whole=None):
-        self.name, self.whole, self.is_shown = name, whole, sys.stderr.isatty()
-
-    def tell(self, done):
-        if self.is_shown:
-            of = "" if self.whole is None else f" of {self.whole / 2**20:,.1f}"
-            print(f"\r{self.name}: {done / 2**20:,.1f}{of} MiB", end="", file=sys.stderr, flush=True)
-
-    def end(self):
-        if self.is_shown:
-            print(file=sys.stderr)
+def tell_left_out(name, left_out, head="all was copied but what follows:"):
+    """Lists what was left out, and returns the status for that."""
+    if not left_out:
+        return 0
+    lines = [head, *(f"{shown(path)}: {why}" for path, why in left_out)]
+    print("".join(f"{name}: {it}\n" for it in lines), end="", file=sys.stderr)
+    return LEFT_OUT
 
 
 def tell_version(name):
@@ -124,10 +265,8 @@ def tell_version(name):
     return ran.returncode
 
 
-def end_with(copy, name, folder, *words):
+def end_with(name, copy, *words):
     """Copies, and returns the status with which the program ends. Where it is told to stop, the run is ended."""
-    runs = Runs(folder)
-
     def stop(number, _):
         for it in SIGNALS:
             signal.signal(it, signal.SIG_IGN)
@@ -136,8 +275,7 @@ def end_with(copy, name, folder, *words):
     for it in SIGNALS:
         signal.signal(it, stop)
     try:
-        copy(runs, *words)
-        return 0
+        return copy(*words)
     except Failure as failure:
         print(f"{name}: {failure.line}", file=sys.stderr)
         return failure.status

@@ -1,16 +1,15 @@
 """Files of one's own, put into a volume and got out of it."""
 
 import hashlib
-import importlib.machinery
-import importlib.util
 import os
 import random
+import re
 import signal
 import subprocess
 import time
 
 from cases import compare
-from clones import TOP, clone, environment, fresh_folder, processes_of, ready, run, run_at_terminal, volume
+from clones import clone, environment, fresh_folder, processes_of, ready, run, run_at_terminal, volume
 
 MIB = 2**20
 
@@ -147,47 +146,11 @@ def many_runs():
     words = ["./ltfs_get", "tape", "/file", copy]
     ran = run(words, where, env=environment(STANDS_FOR=file, CHANGES=1))
     found = compare("status where it changes", 9, ran.status) + compare("a copy", False, copy.exists())
-    found += compare("its line", ["ltfs_get: the file changed while it was read"], ran.lines())
+    told = "ltfs_get: /file can't be got: it changed while it was read (0 1.0 file 2 209715200 "
+    found += compare("its lines", [told], [it[:len(told)] for it in ran.lines()])
     ran = run(words, where, env=environment(STANDS_FOR=file))
     found += compare("status", 0, ran.status) + compare("standard error", [], ran.lines())
     return found + compare("whether it came back as it was", digest(file), digest(copy))
-
-
-def limits():
-    """No script of a put passes a limit, and all that isn't zeros is written, in the order of the file."""
-    loader = importlib.machinery.SourceFileLoader("ltfs_put", str(TOP / "ltfs_put"))
-    program = importlib.util.module_from_spec(importlib.util.spec_from_loader("ltfs_put", loader))
-    loader.exec_module(program)
-    some, ones = bytes(range(256)) * 256, b"\1" * 65_536
-    path, found = b"/" + b"x" * 700, []
-    for name, pieces in {"bytes": [some] * 300, "one byte": [ones] * 2_500, "zeros": [bytes(65_536)] * 3_000,
-                         "all": [some, ones, bytes(65_536)] * 500, "small": [b"12"] * 3_000}.items():
-        lengths, done = [], 0
-        for calls, done in program.scripts(path, Pieces(pieces)):
-            lines = [b"1 %s\n" % it for it in calls]
-            found += compare(f"calls of {name} are too many", False, len(calls) > 1_024)
-            found += compare(f"a script of {name} is too long", False, sum(map(len, lines)) > 16_777_216)
-            writes = [it.split(b" ") for it in calls if it.startswith(b"write ")]
-            lengths += [written(it[3]) for it in writes]
-            found += compare(f"writes of {name} are too large", False, sum(written(it[3]) for it in writes) > 64 * MIB)
-        found += compare(f"bytes of {name} that are written", sum(len(it) for it in pieces if any(it)), sum(lengths))
-        found += compare(f"bytes of {name} that are done", sum(map(len, pieces)), done)
-    return found
-
-
-class Pieces:
-    """A file that gives these pieces, whatever it is asked for."""
-
-    def __init__(self, pieces):
-        self.left = iter(pieces)
-
-    def read(self, _):
-        return next(self.left, b"")
-
-
-def written(word):
-    """How many bytes a write's last word stands for."""
-    return int(word.split(b":")[2]) if word.startswith(b"fill:") else (len(word) - len(b"hex:")) // 2
 
 
 def replaced():
@@ -200,7 +163,8 @@ def replaced():
     run(["./ltfs_server", "serve", folder], ready(), b"1 mkdir /dir\n")
     ran = put(folder, "/dir", here / "short")
     found += compare("status of a put over a directory", 9, ran.status)
-    return found + compare("its line", "ltfs_put: 1 1.1 no IsDir (truncate /dir)", ran.lines()[-1])
+    told = "ltfs_put: /dir can't be put: a directory stands there (0 1.0 no IsDir, read /dir)"
+    return found + compare("its line", told, ran.lines()[-1])
 
 
 def standard_streams():
@@ -213,27 +177,36 @@ def standard_streams():
 
 
 def failures():
-    """The volume's own line, and the status: the run's own, or 9 where a call was refused."""
+    """A sentence with the volume's own line behind, and the status: the run's own, or 9 where a call was refused."""
     folder, empty, here, found = volume(ready()), fresh_folder(), fresh_folder(), []
     file = here / "file"
     file.write_bytes(b"x")
     put(folder, "/here", file)
+    no_path = "PATH is '/', or '/NAME' once or more, in UTF-8, and"
+    missing, is_dir, no_volume = "nothing stands there", "a directory stands there", "the folder holds no volume"
+    put_words, get_words = "[--verify] [--normalize] [--wait SECONDS]", "[--verify] [--wait SECONDS]"
     for ran, status, line in (
-        (put(folder, "/no/x", file), 9, "ltfs_put: 0 1.0 no NotFound (create /no/x)"),
-        (put(folder, "/", file), 9, "ltfs_put: 0 1.0 no Root (create /)"),
-        (put(folder, "/e\u0301", file), 9, "ltfs_put: 0 1.0 no BadName (create /e%CC%81)"),
-        (put(folder, "x", file), 2, "ltfs_put: script 1 Path"),
-        (put(folder, b"/\xff", file), 2, "ltfs_put: script 1 Path"),
-        (put(empty, "/x", file), 3, "ltfs_put: volume Vol1 ip"),
-        (put(empty / "missing", "/x", file), 4, "ltfs_put: drive 0 1"),
+        (put(folder, "/no/x", file), 9,
+         "ltfs_put: /no/x can't be put: its directory isn't there (1 1.1 no NotFound, list /no)"),
+        (put(folder, "/here/x", file), 9,
+         "ltfs_put: /here/x can't be put: a part of its path is no directory (1 1.1 no NotDir, list /here)"),
+        (put(folder, "/", file), 9, f"ltfs_put: / can't be put: {is_dir} (0 1.0 no IsDir, read /)"),
+        (put(folder, "/e\u0301", file), 9, "ltfs_put: /e\u0301 can't be put: its name isn't composed, which is"
+         " Unicode's normal form C; '\u00e9' would do, and --normalize uses that"),
+        (put(folder, "x", file), 2, f"ltfs_put: {no_path} x isn't"),
+        (put(folder, b"/\xff", file), 2, f"ltfs_put: {no_path} /\\xff isn't"),
+        (put(empty, "/x", file), 3, f"ltfs_put: {no_volume} that can be read (volume Vol1 ip)"),
+        (put(empty / "missing", "/x", file), 4, "ltfs_put: the drive over the folder failed (drive 0 1)"),
         (put(folder, "/x", here / "missing"), 5, "ltfs_put: FILE can't be read: No such file or directory"),
-        (put(folder, "/x", here), 5, "ltfs_put: FILE can't be read: Is a directory"),
-        (get(folder, "/x"), 9, "ltfs_get: 0 1.0 no NotFound (stat /x)"),
-        (get(folder, "/"), 9, "ltfs_get: 1 1.1 no IsDir (read /)"),
-        (get(empty, "/x"), 3, "ltfs_get: volume Vol1 ip"),
+        (get(folder, "/x"), 9, f"ltfs_get: /x can't be got: {missing} (0 1.0 no NotFound, stat /x)"),
+        (get(folder, "/"), 9, f"ltfs_get: / can't be got: {is_dir} (1 1.1 no IsDir, read /)"),
+        (get(empty, "/x"), 3, f"ltfs_get: {no_volume} that can be read (volume Vol1 ip)"),
         (get(folder, "/here", here / "no/x"), 6, "ltfs_get: FILE can't be written: No such file or directory"),
-        (run([ready() / "ltfs_put", folder], here), 1, "usage: ltfs_put DIR PATH FILE; 'ltfs_put --help' tells more"),
-        (run([ready() / "ltfs_get"], here), 1, "usage: ltfs_get DIR PATH [FILE]; 'ltfs_get --help' tells more"),
+        (get(folder, "/here", here), 6, "ltfs_get: FILE can't be written: Is a directory"),
+        (run([ready() / "ltfs_put", folder], here), 1,
+         f"usage: ltfs_put {put_words} DIR PATH FILE; 'ltfs_put --help' tells more"),
+        (run([ready() / "ltfs_get"], here), 1,
+         f"usage: ltfs_get {get_words} DIR PATH [FILE]; 'ltfs_get --help' tells more"),
     ):
         found += compare(f"status where {line}", status, ran.status) + compare("last line", line, ran.lines()[-1])
     full = run([ready() / "ltfs_get", folder, "/here"], here, stdout=open("/dev/full", "wb"))
@@ -272,10 +245,13 @@ def told_to_stop():
 def progress():
     folder, file = volume(ready()), fresh_folder() / "file"
     file.write_bytes(bytes(MIB))
-    ran = run_at_terminal([ready() / "ltfs_put", folder, "/file", file], fresh_folder())
-    found = compare("status", 0, ran.status) + compare("what is shown", b"\rltfs_put: 1.0 of 1.0 MiB\n", ran.err[-26:])
-    ran = run_at_terminal([ready() / "ltfs_get", folder, "/file", file], fresh_folder())
-    return found + compare("what is shown then", b"\rltfs_get: 1.0 of 1.0 MiB\n", ran.err[-26:])
+    found, shown = [], rb"\rltfs_%s: 1\.0 of 1\.0 MiB, [\d.]+ MiB/s, 0:00 left *\n"
+    for name in ("put", "get"):
+        ran = run_at_terminal([ready() / f"ltfs_{name}", folder, "/file", file], fresh_folder())
+        found += compare(f"status of a {name}", 0, ran.status)
+        is_shown = bool(re.search(shown % name.encode() + rb"\Z", ran.err))
+        found += compare(f"whether {shown} is shown at the end", True, is_shown)
+    return found
 
 
 CASES = {
@@ -285,7 +261,6 @@ CASES = {
     "sizes": sizes,
     "names": names,
     "repeated": repeated,
-    "limits": limits,
     "replaced": replaced,
     "standard_streams": standard_streams,
     "failures": failures,
