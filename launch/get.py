@@ -59,10 +59,13 @@ def refuse(path, why, status=REFUSED):
 
 
 def is_directory(runs, path):
-    """Whether a directory stands at the path. What else stands there, or nothing, is told when it is read."""
+    """Whether what stands at the path is a directory."""
     call, script = Call(b"stat %s" % escaped(path)), Script()
     script.add(0, call)
-    return any(it.reply.startswith(b"dir ") for it in runs.replies(script))
+    for it in runs.replies(script):
+        if not it.is_done():
+            refuse(path, volume.reason(it))
+    return call.reply.startswith(b"dir ")
 
 
 def copy_to(runs, path, sink, takes_directory=False):
@@ -183,9 +186,11 @@ def see_place(kind, place):
     """Why a node that is no directory can't have its place."""
     if kind == b"l":
         return "it is a symbolic link"
-    if os.path.lexists(place) and not stat.S_ISREG(os.lstat(place).st_mode):
-        return "what stands in its place is no file"
-    return None
+    try:
+        is_free = stat.S_ISREG(os.lstat(place).st_mode)
+    except FileNotFoundError:
+        is_free = True
+    return None if is_free else "what stands in its place is no file"
 
 
 def get_folder(runs, asked, path, folder):

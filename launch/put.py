@@ -134,10 +134,10 @@ def end_of(runs, asked, plan, writing):
     """Tells what came of a folder."""
     if plan.root.problem:
         refuse(plan.root.path, plan.root.problem)
-    status = volume.tell_left_out("ltfs_put", list(plan.problems()))
     if writing.stopped:
         raise Failure(f"{writing.files:,} of {len(plan.files):,} files were copied:"
                       f" {volume.reason(writing.stopped)}", REFUSED)
+    status = volume.tell_left_out("ltfs_put", list(plan.problems()))
     if "--verify" in asked.flags:
         see_same(runs, [it for it in plan.files if it.stage == File.PLACED])
     return status

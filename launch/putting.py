@@ -204,21 +204,23 @@ class Plan:
         self.bytes, self.paths = 0, set()
         waiting = [self.root]
         while waiting:
-            self.look_into(waiting.pop(), waiting)
+            waiting += reversed(self.look_into(waiting.pop()))
 
-    def look_into(self, directory, waiting):
+    def look_into(self, directory):
+        """Adds what is to stand in a directory, and returns the directories there."""
+        begun = len(self.directories)
         try:
             for name, fact in entries_of(directory.source):
                 source = os.path.join(directory.source, name)
                 try:
-                    waiting += self.node(directory, name, source, fact)
+                    self.add(directory, name, source, fact)
                 except LeftOut as why:
                     self.left_out.append((source, str(why)))
         except LeftOut as why:
             self.left_out.append((directory.source, str(why)))
+        return self.directories[begun:]
 
-    def node(self, directory, name, source, fact):
-        """Adds what is to stand at a name, and returns the directories that are to be looked into."""
+    def add(self, directory, name, source, fact):
         if isinstance(fact, LeftOut):
             raise fact
         path = below(directory.path, name_on_volume(name, self.normalize))
@@ -231,10 +233,9 @@ class Plan:
         self.paths.add(path)
         if fact is None:
             self.directories.append(Directory(path, source, directory))
-            return self.directories[-1:]
-        self.files.append(File(path, source, directory, replaces=kind is not None))
-        self.bytes += fact
-        return []
+        else:
+            self.files.append(File(path, source, directory, replaces=kind is not None))
+            self.bytes += fact
 
     def problems(self):
         """What is left out, and why. What a directory holds goes without saying where it can't be made itself."""
