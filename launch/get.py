@@ -44,13 +44,10 @@ def get(asked, folder, path, file=None):
 def get_into(runs, asked, path, file):
     is_folder = os.path.isdir(file)
     at = volume.path_of(path.rstrip("/") or "/" if is_folder else path)
-    if not is_folder or not is_directory(runs, at):
-        try:
-            write_file(runs, asked, at, file)
-            return 0
-        except IsDirectory:
-            if os.path.exists(file):
-                refuse(at, f"it is a directory, and {shown(file)} is none", UNWRITABLE)
+    if not (is_folder and is_directory(runs, at)) and write_file(runs, asked, at, file):
+        return 0
+    if not is_folder and os.path.exists(file):
+        refuse(at, f"it is a directory, and {shown(file)} is none", UNWRITABLE)
     return get_folder(runs, asked, at, os.fsencode(file))
 
 
@@ -101,20 +98,24 @@ def copy_to(runs, path, sink, takes_directory=False):
 
 
 def write_file(runs, asked, path, file):
-    """Writes the file apart, and gives it its name when it is whole. What is no plain file is written as it is."""
+    """Writes the file apart, and gives it its name when it is whole. What is no plain file is written as it is. Returns
+    whether it is a file, and no directory."""
     place = os.path.realpath(file)
     if os.path.exists(place) and not os.path.isfile(place):
         with open(place, "wb") as sink:
             copy_to(runs, path, sink)
-        return
+        return True
     new = NewFile(place)
     try:
         digest = copy_to(runs, path, new.file, takes_directory=True)
         local_files.put_in_place([new])
+    except IsDirectory:
+        return False
     finally:
         new.close()
     if "--verify" in asked.flags and local_files.digest_of(place) != digest:
         refuse(path, DIFFERS)
+    return True
 
 
 class Fetched(reading.Wanted):
@@ -126,17 +127,18 @@ class Fetched(reading.Wanted):
 
     def write(self):
         """Writes apart what came of it in the last run, and returns how many bytes these were."""
-        count = 0
+        count, pieces = 0, self.pieces()
         try:
-            self.new = self.new or NewFile(self.place)
-            for piece in self.pieces():
-                count += self.new.file.write(piece)
+            if not self.problem:
+                self.new = self.new or NewFile(self.place)
+                count = sum(map(self.new.file.write, pieces))
         except OSError as error:
             if error.errno in NO_MORE:
                 raise
             self.problem = f"it can't be written: {error.strerror}"
         if self.problem and self.new:
             self.new.close()
+        self.came = {}
         return count
 
 

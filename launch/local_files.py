@@ -1,8 +1,9 @@
-"""Files of this machine: what a folder holds, a file that is read while it may change, and one that is written apart."""
+"""Files of this machine: what a folder holds, files that may change while they are read, and files written apart."""
 
 import concurrent.futures
 import errno
 import hashlib
+import math
 import os
 import secrets
 import stat
@@ -80,14 +81,17 @@ class Source:
         return self.before[1] if self.is_plain() else None
 
     def pieces(self):
-        """Yields its pieces, all but the last one of the size that a write may have."""
-        while True:
+        """Yields its pieces, all but the last one of the size that a write may have. Of one that grows no more is read
+        than it had."""
+        left = self.length() or math.inf
+        while left > 0:
             try:
-                piece = self.file.read(scripts.WRITE_BYTES)
+                piece = self.file.read(min(left, scripts.WRITE_BYTES))
             except OSError as error:
                 raise unreadable(error) from error
             if not piece:
                 return
+            left -= len(piece)
             self.digest.update(piece)
             yield piece
 

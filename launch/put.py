@@ -113,8 +113,12 @@ def root_on(found, path, asked):
 
 def put_folder(runs, asked, path, top):
     path = volume.path_of(path.rstrip("/") or "/")
+    try:
+        os.scandir(top).close()
+    except OSError as error:
+        raise Failure(f"FILE can't be read: {error.strerror}", UNREADABLE) from error
     found = runs.listing()
-    plan = Plan(top, root_on(found, path, asked), found, "--normalize" in asked.flags)
+    plan = Plan(top, root_on(found, path, asked), found, "--normalize" in asked.flags, runs.folder)
     progress = Progress("ltfs_put", plan.bytes, len(plan.files))
     writing = Writing(runs, progress)
     progress.tell(0)

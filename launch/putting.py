@@ -56,7 +56,7 @@ class File:
     """A file that is to stand at a path of the volume. First it is written apart; then it takes its place, or, where
     there is a problem, what was written of it is dropped."""
 
-    WRITING, PLACING, PLACED, DROPPING = range(4)
+    WRITING, PLACING, PLACING_AGAIN, PLACED, DROPPING = range(5)
 
     def __init__(self, path, source, parent=None, replaces=False):
         self.path, self.source, self.parent, self.replaces = path, source, parent, replaces
@@ -95,17 +95,20 @@ class File:
 
     def next_calls(self):
         """The calls of its next stage, once those of the one before are run; none where it is through."""
+        place = escaped(self.path)
+        remove = [b"remove %s" % place] if self.replaces else []
+        rename, drop = [b"rename %s %s" % (self.apart, place)], [b"remove %s" % self.apart]
         if self.stage == self.WRITING and not self.problem:
-            self.stage = self.PLACING
-            place = escaped(self.path)
-            calls = [b"remove %s" % place] if self.replaces else []
-            return [Call(it, self) for it in [*calls, b"rename %s %s" % (self.apart, place)]]
-        if self.stage == self.PLACING and self.lost_old:
-            self.problem += f"; its bytes stand on the volume as {self.apart.decode()}"
+            self.stage, calls = self.PLACING, remove + rename
+        elif self.stage == self.PLACING and self.lost_old:
+            self.stage, self.problem, calls = self.PLACING_AGAIN, None, rename
         elif self.stage in (self.WRITING, self.PLACING):
-            self.stage = self.DROPPING
-            return [Call(b"remove %s" % self.apart, self)]
-        return []
+            self.stage, calls = self.DROPPING, drop
+        else:
+            calls = []
+        if self.stage == self.PLACING_AGAIN and not calls:
+            self.problem += f"; its bytes stand on the volume as {self.apart.decode()}, up to the next put"
+        return [Call(it, self) for it in calls]
 
 
 class Writing:
@@ -197,8 +200,8 @@ class Writing:
 class Plan:
     """What of a folder is to stand at a path of the volume, whose tree is known, and what is left out of it."""
 
-    def __init__(self, top, path, found, normalize):
-        self.found, self.normalize = found, normalize
+    def __init__(self, top, path, found, normalize, tape=None):
+        self.found, self.normalize, self.tape = found, normalize, tape
         self.root = Directory(path, top)
         self.directories, self.files, self.left_out = [self.root], [], []
         self.bytes, self.paths = 0, set()
@@ -224,6 +227,8 @@ class Plan:
         if isinstance(fact, LeftOut):
             raise fact
         path = below(directory.path, name_on_volume(name, self.normalize))
+        if fact is None and self.tape and os.path.samefile(source, self.tape):
+            raise LeftOut("the files of the cartridge lie there")
         if path in self.paths:
             raise LeftOut("its name is that of another one here once both are composed")
         kind, wanted = self.found.kinds.get(path), b"d" if fact is None else b"f"

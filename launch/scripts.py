@@ -1,4 +1,4 @@
-"""Scripts for `ltfs_server serve`: calls, in as many sessions as there may be, and no more of them than a run may have."""
+"""Scripts for `ltfs_server serve`: calls of up to sixteen sessions, and no more of them than a run may have."""
 
 import urllib.parse
 

@@ -95,14 +95,24 @@ def only_copier(folder, wait):
         yield  # the server tells what is wrong there
         return
     try:
-        until = time.monotonic() + wait
-        while not has_lock(handle, fcntl.LOCK_EX):
-            if time.monotonic() >= until:
-                raise Failure(f"another ltfs_put copies into {shown(folder)}: let it end, or wait longer by --wait", 4)
-            time.sleep(0.05)
+        who = f"another ltfs_put copies into {shown(folder)}"
+        await_turn("ltfs_put", who, lambda: has_lock(handle, fcntl.LOCK_EX), time.monotonic() + wait)
         yield
     finally:
         os.close(handle)
+
+
+def await_turn(name, who, is_free, until, more=""):
+    """Waits up to a moment while somebody else works there, and returns whether somebody did."""
+    told = False
+    while not is_free():
+        if time.monotonic() >= until:
+            raise Failure(f"{who}: let it end, or wait longer by --wait{more}", 4)
+        if not told and sys.stderr.isatty():
+            print(f"{name}: {who}; this one waits", file=sys.stderr)
+        told = True
+        time.sleep(0.05)
+    return told
 
 
 def has_lock(handle, kind):
@@ -196,16 +206,8 @@ class Runs:
 
     def await_claim(self, claim, until):
         """Waits while another program has the folder, and returns whether one had it."""
-        told = False
-        while is_claimed(self.folder, claim):
-            if time.monotonic() >= until:
-                raise Failure(f"another program uses {shown(self.folder)}: let it end, or wait longer by --wait"
-                              f" ({NO_CLAIM.decode()})", 4)
-            if not told and sys.stderr.isatty():
-                print(f"{self.name}: another program uses {shown(self.folder)}; this one waits", file=sys.stderr)
-            told = True
-            time.sleep(0.05)
-        return told
+        who = f"another program uses {shown(self.folder)}"
+        return await_turn(self.name, who, lambda: not is_claimed(self.folder, claim), until, f" ({NO_CLAIM.decode()})")
 
     def failure(self, status, line):
         if status < 0:

@@ -6,11 +6,13 @@ import os
 import random
 import sys
 import threading
+from unittest import mock
 
 from cases import compare
 from clones import TOP, fresh_folder
 
 sys.path.append(str(TOP / "launch"))
+import get  # noqa: E402
 import local_files  # noqa: E402
 import options  # noqa: E402
 import progress  # noqa: E402
@@ -24,12 +26,13 @@ CALLS = {b"mkdir": 1, b"create": 1, b"write": 3, b"truncate": 2, b"read": 3, b"l
 
 
 class Tape:
-    """A volume that answers as docs/FORMATS.md says. Which session comes next is by chance. With `room` it has place for
-    so many writes, and is full then."""
+    """A volume that answers as docs/FORMATS.md says. Which session comes next is by chance. With `room` it has place
+    for so many writes, and is full then. `refused` has calls by their first two words, and how each is refused in turn.
+    """
 
     def __init__(self, room=None, seed=1):
         self.nodes, self.room, self.chance = {b"/": None}, room, random.Random(seed)
-        self.runs, self.beyond = 0, []
+        self.runs, self.beyond, self.folder, self.refused = 0, [], None, {}
 
     def listing(self):
         found = volume.Listing()
@@ -51,7 +54,9 @@ class Tape:
             words = call.text.split(b" ")
             if len(words) != CALLS[words[0]] + 1:
                 self.beyond.append(f"the words {words[:2]}")
-            call.reply = self.answer(words[0], *map(scripts.unescaped, words[1:2]), *words[2:])
+            refusals = self.refused.get(b" ".join(words[:2]))
+            call.reply = refusals.pop(0) if refusals else self.answer(
+                words[0], *map(scripts.unescaped, words[1:2]), *words[2:])
             call.line = b"0 1.0 " + call.reply
             yield call
 
@@ -156,11 +161,15 @@ def folder_of(nodes):
 
 
 def put_folder(tape, top, *flags):
-    """Puts a folder, and returns the status and what was said."""
-    asked, said = options.read_words(flags, flags), io.StringIO()
+    return copied(put.put_folder, tape, options.read_words(flags, flags), "/", top)
+
+
+def copied(copy, *words):
+    """Copies, and returns the status and what was said."""
+    said = io.StringIO()
     with contextlib.redirect_stderr(said):
         try:
-            status = put.put_folder(tape, asked, "/", top)
+            status = copy(*words)
         except volume.Failure as failure:
             status = failure.status
             said.write(failure.line)
@@ -204,6 +213,77 @@ def full():
             wanted = f"{whole} of 40 files were copied: the volume is full (0 1.0 full 9 8, write /.ltfs_put-"
             found += compare(f"how it ends with room for {room}", [9, wanted], [status, said[:len(wanted)]])
     return found
+
+
+def refused():
+    """What is refused of one file by the volume is told of that one, and drops what was written of it; so it is with a
+    directory, and then nothing is said of what it holds."""
+    nodes = {b"/d": None, b"/d/x": b"x", b"/e": None, b"/e/y": b"y", b"/f": b"new"}
+    top, found = folder_of(nodes), []
+    own = mock.patch.object(putting.secrets, "token_hex", lambda _: "0123456789abcdef")
+    apart = b"/.ltfs_put-0123456789abcdef"
+    for verb, replies, lines, stands in (
+        (b"mkdir /d", [b"no BadName"], ["/d: its name can't be one on a volume (0 1.0 no BadName, mkdir /d)"],
+         {b"/e": None, b"/e/y": b"y", b"/f": b"new"}),
+        (b"create /e" + apart, [b"no BadName"], ["/e/y: its name can't be one on a volume (0 1.0 no BadName, create /e"
+                                                 + apart.decode() + ")"],
+         {b"/d": None, b"/d/x": b"x", b"/e": None, b"/f": b"new"}),
+        (b"remove /f", [b"no NotEmpty"],
+         ["/f: a directory that isn't empty stands there (0 1.0 no NotEmpty, remove /f)"],
+         {**nodes, b"/f": b"old"}),
+        (b"rename " + apart, [b"no Inside"], [], nodes),
+        (b"rename " + apart, [b"no Inside"] * 2,
+         [f"/f: it was refused (0 1.0 no Inside, rename {apart.decode()}); its bytes stand on the volume as"
+          f" {apart.decode()}, up to the next put"],
+         {**{it: nodes[it] for it in nodes if it != b"/f"}, apart: b"new"}),
+    ):
+        tape = Tape()
+        tape.nodes[b"/f"], tape.refused[verb] = bytearray(b"old"), list(replies)
+        with own:
+            status, said = put_folder(tape, top)
+        wanted = [f"ltfs_put: {os.fsdecode(top)}{it}" for it in lines]
+        found += compare(f"how it ends where {verb} is refused", [10 if lines else 0, wanted],
+                         [status, said.splitlines()[1:]])
+        found += compare(f"what stands where {verb} is refused", {b"/": None, **stands}, tape.nodes)
+    return found
+
+
+def grows():
+    """Of a file that grows all the time no more is read than it had, and the cartridge's own folder is left out."""
+    folder = folder_of({b"/tape/dp.img": b"d", b"/x": b"x"})
+    tape = Tape()
+    tape.folder = os.path.join(folder, b"tape")
+    line = f"ltfs_put: {os.fsdecode(folder)}/tape: the files of the cartridge lie there"
+    status, said = put_folder(tape, folder)
+    found = compare("how it ends", [10, line], [status, said.splitlines()[-1]])
+    with open(folder + b"/x", "r+b") as file:
+        source = local_files.Source(open(folder + b"/x", "rb"))
+        file.seek(0, os.SEEK_END)
+        file.write(b"and more")
+        file.flush()
+        with source:
+            found += compare("what is read", [b"x"], list(source.pieces()))
+            found += compare("whether it has changed", True, source.has_changed())
+    return found
+
+
+def verified():
+    """What the volume gives back otherwise, or doesn't give, is told; of a get too."""
+    nodes = {b"/d": None, b"/d/x": b"content", b"/f": b"f"}
+    top, tape, found = folder_of(nodes), Tape(), []
+    tape.refused[b"read /d/x"] = [b"bytes 7 " + b"contend".hex().encode()]
+    status, said = put_folder(tape, top, "--verify")
+    lines = ["ltfs_put: these differ:", "ltfs_put: /d/x: what the volume gives back isn't what was copied",
+             "1 of 2 files aren't on the volume as they were copied"]
+    found += compare("how the put ends", [9, lines], [status, said.splitlines()])
+    tape.refused[b"read /d/x"] = [b"no Damaged"]
+    copy = os.fsencode(fresh_folder())
+    status, said = copied(get.get_folder, tape, options.read_words(["--verify"], ["--verify"]), b"/", copy)
+    lines = ["ltfs_get: all was copied but what follows:",
+             "ltfs_get: /d/x: the volume has lost bytes of it (0 1.0 no Damaged, read /d/x)"]
+    found += compare("how the get ends", [10, lines], [status, said.splitlines()])
+    return found + compare("what is there", [["d", "f"], []], [sorted(os.listdir(os.fsdecode(copy))),
+                                                            os.listdir(copy + b"/d")])
 
 
 def tried_again():
@@ -342,4 +422,4 @@ def alone(case):
 
 
 CASES = {f"parts/{it.__name__}": alone(it) for it in
-         (limits, ten_thousand, full, tried_again, made_safe, cut_off, words)}
+         (limits, ten_thousand, full, refused, grows, verified, tried_again, made_safe, cut_off, words)}

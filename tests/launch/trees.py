@@ -181,7 +181,8 @@ def failures():
     for ran, status, line in (
         (put(folder, "/no/tree", top), 9,
          "ltfs_put: /no/tree can't be put: the directory in which it is to stand isn't there"),
-        (put(folder, "/file", top), 9, "ltfs_put: /file can't be put: it is a file on the volume, and FILE is a folder"),
+        (put(folder, "/file", top), 9,
+         "ltfs_put: /file can't be put: it is a file on the volume, and FILE is a folder"),
         (put(folder, "/file/x", top), 9,
          "ltfs_put: /file/x can't be put: the directory in which it is to stand isn't there"),
         (put(folder, "/e\u0301", top), 9, "ltfs_put: /e\u0301 can't be put: its name isn't composed, which is Unicode's"
@@ -322,15 +323,15 @@ def changed_between():
     where, runs, env = between()
     top, found = many_files(600), []
     begins = ": another program has changed the volume meanwhile, so what was copied may not be whole; copy it again"
-    for name, change, when in (("put", "1 mkdir /other\n", "behind 1"), ("put", "1 remove /tree/new/f00000\n", "behind 2"),
-                               ("get", "1 mkdir /more\n", "before 1")):
-        folder = volume(ready())
-        if name == "get":
+    for copy, change, when in ((put, "1 mkdir /other\n", "behind 1"),
+                               (put, "1 remove /tree/new/f00000\n", "behind 2"),
+                               (get, "1 mkdir /more\n", "before 2")):
+        folder, name = volume(ready()), copy.__name__
+        if copy == get:
             put(folder, "/tree", make({"x": b"x"}))
         runs.write_bytes(b"")
-        copy = put if name == "put" else get
-        ran = copy(folder, "/tree", top if name == "put" else fresh_folder() / "copy", where=where,
-                   env=env(MEDDLES="before 2" if name == "get" else when, CHANGE=change))
+        ran = copy(folder, "/tree", top if copy == put else fresh_folder() / "copy", where=where,
+                   env=env(MEDDLES=when, CHANGE=change))
         found += compare(f"status of the {name}, changed {when}", 9, ran.status)
         found += compare(f"its line, changed {when}", [f"ltfs_{name}{begins}"], [it.split(" (")[0] for it in told(ran)])
     return found
@@ -366,8 +367,8 @@ def two_puts():
         line = f"ltfs_put: another ltfs_put copies into {folder}: let it end, or wait longer by --wait"
         found += compare(f"lines with --wait {wait}", wanted.count(4), sum(line in it for it in said))
         get(folder, "/file", here / "copy")
-        came = (here / "copy").read_bytes()
-        found += compare(f"whether it is one, with --wait {wait}", 1, sum(came == (here / it).read_bytes() for it in "ab"))
+        are_same = [(here / "copy").read_bytes() == (here / it).read_bytes() for it in "ab"]
+        found += compare(f"whether it is one, with --wait {wait}", 1, sum(are_same))
         found += compare(f"nodes with --wait {wait}", 2, len(listed(folder)))
     return found
 
