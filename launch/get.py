@@ -75,10 +75,11 @@ def copy_to(runs, path, sink, takes_directory=False):
         script = Script()
         for call in [Call(b"stat %s" % escaped(path)), *scripts.read_calls(escaped(path), done, end)]:
             script.add(0, call)
-        runs.generation = None
+        runs.generation, is_directory = None, False
         for call in runs.replies(script):
-            if call.reply.startswith(b"dir ") and takes_directory:
-                raise IsDirectory
+            is_directory |= takes_directory and call.reply.startswith(b"dir ")
+            if is_directory:
+                continue
             if not call.is_done():
                 refuse(path, volume.reason(call))
             elif call.reply.startswith(b"file "):
@@ -91,6 +92,8 @@ def copy_to(runs, path, sink, takes_directory=False):
                 sink.write(piece)
                 digest.update(piece)
                 done += len(piece)
+        if is_directory:
+            raise IsDirectory
         progress.tell(done)
     sink.flush()
     progress.end()

@@ -108,10 +108,10 @@ class Script:
         call.line, call.reply = line, words[2]
         return call
 
-    def generations(self, before):
+    def generations(self, before, may_rise=False):
         """In which generations a run may end whose volume began in this one: each change by a call is one of the next
         one, and setting a length may be none."""
         done = {it.verb for calls in self.sessions for it in calls if it.is_done()}
         if any(it in done for it in CHANGES):
             return [before + 1]
-        return [before, before + 1] if b"truncate" in done else [before]
+        return [before, before + 1] if may_rise or b"truncate" in done else [before]

@@ -159,15 +159,18 @@ class Runs:
         self.name, self.folder, self.wait = name, folder, wait
         self.said = set()
         self.generation = self.server = None
+        self.may_rise = False
 
     def listing(self):
-        """The tree of the volume. Every later run has to go on from its generation."""
-        found = Listing()
+        """The tree of the volume. Every later run has to go on from its generation. Where no run of this copy closed
+        the volume in it, the next one may do so in a new one, since both partitions need not have had its index."""
+        found, before = Listing(), self.generation
         for line in self.lines("list", fcntl.LOCK_SH):
             if line.startswith(b"generation "):
                 self.generation = int(line.split(b" ")[1])
             else:
                 found.take(line)
+        self.may_rise = self.generation != before
         return found
 
     def replies(self, script):
@@ -182,7 +185,8 @@ class Runs:
             if call:
                 yield call
         before, self.generation = self.generation, closed
-        if before is not None and closed not in script.generations(before):
+        may_rise, self.may_rise = self.may_rise, False
+        if before is not None and closed not in script.generations(before, may_rise):
             raise Failure("another program has changed the volume meanwhile, so what was copied may not be whole;"
                           f" copy it again (generation {before}, and behind the next run {closed})", REFUSED)
 

@@ -204,7 +204,7 @@ def failures():
 # ends the program that has begun it, or makes a change of its own.
 BETWEEN = """#!/usr/bin/env python3
 import os, pathlib, signal, subprocess, sys
-runs, words = pathlib.Path(os.environ["RUNS"]), sys.argv[1:]
+runs, words, begun_by = pathlib.Path(os.environ["RUNS"]), sys.argv[1:], os.getppid()
 given = sys.stdin.buffer.read()
 number = len(runs.read_bytes()) + 1 if runs.exists() else 1
 
@@ -213,8 +213,8 @@ def meddle(when):
         if "CHANGE" in os.environ:
             serve = [os.environ["SERVER"], "serve", words[1]]
             subprocess.run(serve, input=os.environb[b"CHANGE"], stdout=subprocess.DEVNULL, stderr=subprocess.DEVNULL)
-        else:
-            os.kill(os.getppid(), int(os.environ.get("SIGNAL", signal.SIGKILL)))
+        elif b"ltfs_" in pathlib.Path(f"/proc/{begun_by}/cmdline").read_bytes():
+            os.kill(begun_by, int(os.environ.get("SIGNAL", signal.SIGKILL)))
             sys.exit(1)
 
 meddle("before")
@@ -354,23 +354,41 @@ def one_file_between():
     return found + compare("what stands there", [b"d", b"f"], [it[:1] for it in listed(folder)])
 
 
+def other_program():
+    """A volume of another program, of which only the index partition has the newest index, is no changed one."""
+    folder, found = fresh_folder() / "tape", []
+    subprocess.run(["cp", "-r", ready() / "examples/photos", folder], check=True)
+    before = run(["./ltfs_server", "list", folder], ready()).out
+    copy = fresh_folder() / "copy"
+    ran = get(folder, "/", copy)
+    found += compare("status of a get", [LEFT_OUT if b"\nl " in before else 0], [ran.status])
+    files = [it.split(b" ")[3] for it in before.splitlines() if it.startswith(b"f ")]
+    found += compare("files", len(files), sum(it is not None for it in tree_of(copy).values()))
+    shutil.rmtree(folder)
+    subprocess.run(["cp", "-r", ready() / "examples/photos", folder], check=True)
+    for top in (make({}), make({"x": b"x"}), make({"x": b"y", "q/": b""})):
+        ran = put(folder, "/", top)
+        found += compare("how a put ends", [0, []], [ran.status, told(ran)])
+    return found
+
+
 def two_puts():
     """Two puts at once to one path both end well, one behind the other; or one is told that it had to wait too long."""
     folder, here, found = volume(ready()), fresh_folder(), []
     for name, byte in (("a", b"a"), ("b", b"b")):
         (here / name).write_bytes(byte * 3 + some_bytes(9_000_000, 5))
-    for wait, wanted in (("100", [0, 0]), ("0", [0, 4])):
-        words = [ready() / "ltfs_put", "--wait", wait, folder, "/file"]
-        both = [subprocess.Popen([*words, here / it], env=environment(), stderr=subprocess.PIPE) for it in "ab"]
-        said = [it.communicate(timeout=300)[1].decode() for it in both]
-        found += compare(f"statuses with --wait {wait}", wanted, sorted(it.returncode for it in both))
-        line = f"ltfs_put: another ltfs_put copies into {folder}: let it end, or wait longer by --wait"
-        found += compare(f"lines with --wait {wait}", wanted.count(4), sum(line in it for it in said))
-        get(folder, "/file", here / "copy")
-        are_same = [(here / "copy").read_bytes() == (here / it).read_bytes() for it in "ab"]
-        found += compare(f"whether it is one, with --wait {wait}", 1, sum(are_same))
-        found += compare(f"nodes with --wait {wait}", 2, len(listed(folder)))
-    return found
+    words = [ready() / "ltfs_put", "--wait", "300", folder, "/file"]
+    both = [subprocess.Popen([*words, here / it], env=environment(), stderr=subprocess.DEVNULL) for it in "ab"]
+    found += compare("statuses", [0, 0], [it.wait(timeout=300) for it in both])
+    get(folder, "/file", here / "copy")
+    are_same = [(here / "copy").read_bytes() == (here / it).read_bytes() for it in "ab"]
+    found += compare("whether it is one of the two", 1, sum(are_same))
+    found += compare("nodes", 2, len(listed(folder)))
+    with open(folder / "cm.img", "rb") as held:
+        fcntl.flock(held, fcntl.LOCK_EX)  # as a put has it from its begin to its end
+        ran = put(folder, "/file", here / "a", "--wait", "0.2")
+    line = f"ltfs_put: another ltfs_put copies into {folder}: let it end, or wait longer by --wait"
+    return found + compare("how one ends that waits too long", [4, [line]], [ran.status, told(ran)])
 
 
 def in_use():
@@ -404,6 +422,7 @@ CASES = {
     "trees/progress": progress,
     "trees/changed_between": changed_between,
     "trees/one_file_between": one_file_between,
+    "trees/other_program": other_program,
     "trees/two_puts": two_puts,
     "trees/in_use": in_use,
 }
