@@ -7,6 +7,9 @@ import time
 class Progress:
     """Tells files and bytes that are done, how many bytes come in a second, and how much time is left."""
 
+    # The one whose line isn't ended.
+    shown = None
+
     def __init__(self, name, whole=None, files=None):
         self.name, self.whole, self.files = name, whole, files
         self.is_shown = sys.stderr.isatty()
@@ -20,6 +23,7 @@ class Progress:
         # What stood there is written over.
         print(f"\r{line:{self.width}}", end="", file=sys.stderr, flush=True)
         self.width = len(line)
+        Progress.shown = self
 
     def counts(self, done, files):
         of_files = "" if self.files is None else f"{files or 0:,} of {self.files:,} files, "
@@ -35,9 +39,16 @@ class Progress:
         return f", {rate / 2**20:,.1f} MiB/s{left}"
 
     def end(self):
-        if self.is_shown and self.width:
+        if Progress.shown is self:
             print(file=sys.stderr)
-            self.width = 0
+            self.width, Progress.shown = 0, None
+
+
+def say(name, *lines):
+    """Tells lines on standard error, below what is shown of a copy."""
+    if Progress.shown:
+        Progress.shown.end()
+    print("".join(f"{name}: {it}\n" for it in lines), end="", file=sys.stderr, flush=True)
 
 
 def clock(seconds):

@@ -11,6 +11,7 @@ import threading
 import time
 
 import scripts
+from progress import say
 
 TOP = pathlib.Path(__file__).resolve().parents[1]
 # Where a call was refused, or the volume was changed by another program.
@@ -109,7 +110,7 @@ def await_turn(name, who, is_free, until, more=""):
         if time.monotonic() >= until:
             raise Failure(f"{who}: let it end, or wait longer by --wait{more}", 4)
         if not told and sys.stderr.isatty():
-            print(f"{name}: {who}; this one waits", file=sys.stderr)
+            say(name, f"{who}; this one waits")
         told = True
         time.sleep(0.05)
     return told
@@ -259,8 +260,7 @@ def tell_left_out(name, left_out, head="all was copied but what follows:"):
     """Lists what was left out, and returns the status for that."""
     if not left_out:
         return 0
-    lines = [head, *(f"{shown(path)}: {why}" for path, why in left_out)]
-    print("".join(f"{name}: {it}\n" for it in lines), end="", file=sys.stderr)
+    say(name, head, *(f"{shown(path)}: {why}" for path, why in left_out))
     return LEFT_OUT
 
 
@@ -283,5 +283,5 @@ def end_with(name, copy, *words):
     try:
         return copy(*words)
     except Failure as failure:
-        print(f"{name}: {failure.line}", file=sys.stderr)
+        say(name, failure.line)
         return failure.status

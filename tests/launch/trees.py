@@ -315,7 +315,10 @@ def progress():
         found += compare(f"whether the {name} shows it", True, is_shown)
         begins = f"ltfs_{name}: 0 of 2 files, 0.0 of 1.0 MiB".encode()
         found += compare(f"whether the {name} shows the first", True, begins in ran.err)
-    return found
+    (fresh := make({"link/x": b"x"}) / "link/y").symlink_to("x")
+    ran = run_at_terminal([ready() / "ltfs_put", folder, "/tree", fresh.parent], fresh_folder())
+    lines = ["ltfs_put: all was copied but what follows:", f"ltfs_put: {fresh}: it is a symbolic link"]
+    return found + compare("last lines where one is left out", lines, ran.lines()[-2:])
 
 
 def changed_between():
