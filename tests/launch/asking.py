@@ -158,7 +158,9 @@ def help_and_version():
         found += compare(f"{words}", out("ltfs_server", "help", command), out("ltfs_server", *words))
     found += compare("check f --help", out("index_tool", "help", "check"), out("index_tool", "check", "f", "--help"))
     version = out("ltfs_server", "--version")
-    found += compare("whether the version is told", True, version.startswith(b"ltfs_server, for LTFS 2.4, "))
+    release = (TOP / "launch/version").read_bytes().strip()
+    found += compare("whether the version is told", True,
+                     version.startswith(b"ltfs_server %s, for LTFS 2.4, " % release))
     found += compare("-V", version, out("ltfs_server", "-V"))
     for it in ("ltfs_put", "ltfs_get"):
         for words in (["--version"], ["-V"]):
