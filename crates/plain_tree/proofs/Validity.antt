@@ -19,16 +19,19 @@ use Rattle.plain_tree.specs.declared.nodes.Kind.TheVariants as kinds
 use Rattle.plain_tree.specs.declared.calls.Entry.{Entry}
 use Rattle.plain_tree.specs.declared.changes.NodeChange.{NodeChange}
 use Rattle.plain_tree.specs.declared.changes.NodeChange.TheVariants as changes
+use Rattle.plain_tree.specs.declared.changes.NodeWrite.{NodeWrite}
+use Rattle.plain_tree.specs.declared.changes.NodeWrite.TheVariants as writes
+use Rattle.plain_tree.specs.declared.calls.LockState.TheVariants as locks
 use Rattle.plain_tree.proofs.PageLemmas.{ltb-is_true}
 use Rattle.plain_tree.specs.declared.calls.Refusal.{Refusal}
 use Rattle.plain_tree.specs.declared.calls.Refusal.TheVariants.{Root, Exists, NotEmpty, Inside}
 use Rattle.plain_tree.specs.declared.calls.Call.{Call}
-use Rattle.plain_tree.specs.declared.calls.Call.TheVariants.{Mkdir, Create, Write, Truncate, Read, Listing, Stat, Rename, Remove, Sync}
+use Rattle.plain_tree.specs.declared.calls.Call.TheVariants.{Mkdir, Create, Write, Truncate, Read, Listing, Stat, Rename, Remove, Setx, Getx, Dropx, Readonly, LockVolume, UnlockVolume, PermLock, Sync}
 use Rattle.plain_tree.specs.Cells.{Cell, written, resized}
 use Rattle.plain_tree.specs.Paths.{Path, path_cmp, name_in, last_name, parent_of, same_path, is_at_or_below, is_below, moved_path}
-use Rattle.plain_tree.specs.Tree.{Tree, sort_of, Nodes, empty_tree, new_node, changed_at, touch, touched, change_noted, file_changed, changed_by, moved, entry_in, entries_in, cells_at}
-use Rattle.plain_tree.specs.Refusals.{first_of, refuse_if, no_node, no_dir, exists_at, at_root, too_many, not_empty, bad_name, new_refusal, rename_refusal, refusal_of}
-use Rattle.plain_tree.specs.Calls.{with_new, with_bytes, with_length, with_rename, without, after, after_done, after_unless}
+use Rattle.plain_tree.specs.Tree.{Tree, sort_of, Nodes, empty_tree, new_node, changed_at, touch, touched, change_noted, file_changed, changed_by, written_by, moved, entry_in, entries_in, cells_at, has_value, key_set, key_dropped, flag_at, same_flag, flagged}
+use Rattle.plain_tree.specs.Refusals.{first_of, or_else, refuse_if, no_node, no_dir, exists_at, at_root, too_many, not_empty, bad_name, read_only, lock_refusal, new_refusal, rename_refusal, refusal_within, refusal_of}
+use Rattle.plain_tree.specs.Calls.{with_new, with_bytes, with_length, with_rename, without, with_key, with_flag, after, after_done, after_unless}
 use Rattle.plain_tree.specs.Valid.{is_dir, mark_of, mark_at, IsShape, AreValid, IsValid}
 use Rattle.plain_tree.specs.Seen.{CanStand, CanLeave, CanMove}
 use Rattle.plain_tree.proofs.NodeLemmas.{path_total, path_exact, changed_found, changed_missing}
@@ -51,7 +54,8 @@ remark m p q node new Less is found same = refl
 remark m p q node new Equal is found same = same ∙ ap mark_of (sym found ∙ fin.get_tied path_total m q p is)
 remark m p q node new Greater is found same = refl
 
-remarks : (m : Nodes) (p : Path) (node new : Node) → fin.get m p ≡ Some node → mark_of (Some new) ≡ mark_of (Some node) → (q : Path) → mark_at (fin.insert m p new) q ≡ mark_at m q
+-- a node that keeps its mark, put in the place of another, changes no mark
+pub remarks : (m : Nodes) (p : Path) (node new : Node) → fin.get m p ≡ Some node → mark_of (Some new) ≡ mark_of (Some node) → (q : Path) → mark_at (fin.insert m p new) q ≡ mark_at m q
 remarks m p node new found same q = ap mark_of (fin.get-insert path_total m p new q) ∙ remark m p q node new (path_cmp q p) refl found same
 
 -- replacing what stands at a path leaves the count of nodes
@@ -84,6 +88,13 @@ pub change_mark : (change : NodeChange) (at : Moment) (node : Node) → mark_of 
 change_mark changes.Touch at node = refl
 change_mark changes.Note at node = refl
 change_mark (changes.Resize size) at node = file_mark (λ cells. resized cells size) at node
+change_mark (changes.Flag on) at node = refl
+change_mark (changes.DropKey key) at node = refl
+
+-- nor does one that takes memory
+pub write_mark : (write : NodeWrite) (at : Moment) (node : Node) → mark_of (Some (written_by write at node)) ≡ mark_of (Some node)
+write_mark (writes.File offset bytes) at node = file_mark (λ cells. written cells offset (map (λ x. Some x) bytes.now)) at node
+write_mark (writes.Key key bytes) at node = refl
 
 -- a change of a file's bytes keeps the shape of the tree
 pub file_keeps : (change : List Cell → List Cell) (at : Moment) (p : Path) (m : Nodes) (h : ℕ) → IsShape (mark_at m) (fin.len m) h → IsShape (mark_at (changed_at (file_changed change at) p m)) (fin.len (changed_at (file_changed change at) p m)) h
@@ -196,7 +207,8 @@ can_stand kind t path at free s =
     let b = first_none (at_root path) _ a.1 in
     let c = first_none (no_dir t.nodes (parent_of path)) _ b.1 in
     let d = first_none (exists_at t.nodes path) _ c.1 in
-    let e = first_none (too_many t) _ d.1 in
+    let r = first_none (read_only t.nodes (parent_of path)) _ d.1 in
+    let e = first_none (too_many t) _ r.1 in
     let space = room_of t e.0 in
     record {
       highest = t.highest;
@@ -367,14 +379,14 @@ may_leave m path valid named there bare = record {
 }
 
 -- a node may leave where its removal is not refused
-pub can_leave : (t : Tree) (path : Path) → IsValid t → refusal_of t (Remove path) ≡ None → CanLeave t.nodes path
+pub can_leave : (t : Tree) (path : Path) → IsValid t → refusal_within t (Remove path) ≡ None → CanLeave t.nodes path
 can_leave t path s free =
     let a = first_none (at_root path) _ free in
     let b = first_none (no_node t.nodes path) _ a.1 in
     let c = first_none (not_empty t.nodes path) _ b.1 in
     may_leave t.nodes path (t.highest, s) (not_root path a.0) b.0 (not_refused _ NotEmpty c.0)
 
-remove_keeps : (t : Tree) (path : Path) (at : Moment) → refusal_of t (Remove path) ≡ None → IsValid t → IsValid (without t path at)
+remove_keeps : (t : Tree) (path : Path) (at : Moment) → refusal_within t (Remove path) ≡ None → IsValid t → IsValid (without t path at)
 remove_keeps t path at free s =
     touch_keeps at (parent_of path) (fin.remove t.nodes path) t.highest (removed_shape t.nodes path t.highest s (can_leave t path s free))
 
@@ -384,7 +396,8 @@ marked false true x y = refl
 marked false false x y = refl
 
 module _ (m : Nodes) (from to : Path) (can : CanMove m from to) where
-  after_move : (q : Path) → mark_at (moved from to m) q ≡ cond (is_at_or_below to q) (mark_at m (back from to q)) (cond (is_at_or_below from q) None (mark_at m q))
+  -- the mark at each path once a node has moved
+  pub after_move : (q : Path) → mark_at (moved from to m) q ≡ cond (is_at_or_below to q) (mark_at m (back from to q)) (cond (is_at_or_below from q) None (mark_at m q))
   after_move q = ap mark_of (get_moved from to m q can.free) ∙ marked (is_at_or_below to q) (is_at_or_below from q) (fin.get m (back from to q)) (fin.get m q)
 
   moved_here : (q : Path) → is_at_or_below to q ≡ true → mark_at (moved from to m) q ≡ mark_at m (back from to q)
@@ -499,8 +512,8 @@ rename_target m from to free differ =
     let d = first_none (no_node m from) _ c.1 in
     let e = first_none (no_dir m (parent_of to)) _ d.1 in
     let f = first_none _ _ e.1 in
-    let g : first_of (exists_at m to ∷ refuse_if (is_below from to) Inside ∷ []) ≡ None =
-    sym (ap (λ b. cond b None (first_of (exists_at m to ∷ refuse_if (is_below from to) Inside ∷ []))) differ) ∙ f.0 in
+    let g : first_of (exists_at m to ∷ refuse_if (is_below from to) Inside ∷ read_only m (parent_of from) ∷ read_only m (parent_of to) ∷ []) ≡ None =
+    sym (ap (λ b. cond b None (first_of (exists_at m to ∷ refuse_if (is_below from to) Inside ∷ read_only m (parent_of from) ∷ read_only m (parent_of to) ∷ []))) differ) ∙ f.0 in
     let i = first_none (exists_at m to) _ g in
     (not_some _ (not_refused _ Exists i.0), not_refused _ Inside (first_none (refuse_if (is_below from to) Inside) _ i.1).0)
 
@@ -552,7 +565,30 @@ length_keeps t path n at s =
       | false ↦ file_keeps (λ cells. resized cells n) at path t.nodes t.highest s
     ]
 
-done_keeps : (t : Tree) (call : Call) (at : Moment) → refusal_of t call ≡ None → IsValid t → IsValid (after_done t call at)
+-- a change of a node's attributes or flag keeps the shape of the tree
+key_keeps : (t : Tree) (path : Path) (key bytes : List ℕ) (at : Moment) → IsValid t → IsValid (with_key t path key bytes at)
+key_keeps t path key bytes at s =
+    elim (has_value t.nodes path key bytes) as (λ b. IsValid (cond b t (record t { nodes = changed_at (key_set key bytes at) path t.nodes }))) [
+      | true ↦ s
+      | false ↦ changed_keeps (key_set key bytes at) (λ n. refl) path t.nodes t.highest s
+    ]
+
+flag_keeps : (t : Tree) (path : Path) (on : Bool) (at : Moment) → IsValid t → IsValid (with_flag t path on at)
+flag_keeps t path on at s =
+    elim (same_flag (flag_at t.nodes path) on) as (λ b. IsValid (cond b t (record t { nodes = changed_at (flagged on at) path t.nodes }))) [
+      | true ↦ s
+      | false ↦ changed_keeps (flagged on at) (λ n. refl) path t.nodes t.highest s
+    ]
+
+both_none : (a b : Option Refusal) → or_else a b ≡ None → (a ≡ None) × (b ≡ None)
+both_none None b e = (refl, e)
+both_none (Some r) b e = cc
+
+-- a call that isn't refused is refused neither for the lock nor within
+pub free_within : (t : Tree) (call : Call) → refusal_of t call ≡ None → (lock_refusal t.lock call ≡ None) × (refusal_within t call ≡ None)
+free_within t call free = both_none (lock_refusal t.lock call) (refusal_within t call) free
+
+done_keeps : (t : Tree) (call : Call) (at : Moment) → refusal_within t call ≡ None → IsValid t → IsValid (after_done t call at)
 done_keeps t (Mkdir path) at free s = create_keeps kinds.Dir t path at free s
 done_keeps t (Create path) at free s = create_keeps (kinds.File []) t path at free s
 done_keeps t (Write path offset bytes) at free s = write_keeps t path offset bytes at s
@@ -562,13 +598,20 @@ done_keeps t (Listing path) at free s = s
 done_keeps t (Stat path) at free s = s
 done_keeps t (Rename from to) at free s = rename_keeps t from to at free s
 done_keeps t (Remove path) at free s = remove_keeps t path at free s
+done_keeps t (Setx path key bytes) at free s = key_keeps t path key bytes at s
+done_keeps t (Getx path key) at free s = s
+done_keeps t (Dropx path key) at free s = changed_keeps (key_dropped key at) (λ n. refl) path t.nodes t.highest s
+done_keeps t (Readonly path on) at free s = flag_keeps t path on at s
+done_keeps t LockVolume at free s = s
+done_keeps t UnlockVolume at free s = s
+done_keeps t PermLock at free s = s
 done_keeps t Sync at free s = s
 
 -- each call leaves a valid tree valid
 pub next_valid : (t : Tree) (call : Call) (at : Moment) → IsValid t → IsValid (after t call at)
 next_valid t call at s =
     elim (refusal_of t call) as (λ r. refusal_of t call ≡ r → IsValid (after_unless r (after_done t call at) t)) [
-      | None ↦ λ free. done_keeps t call at free s
+      | None ↦ λ free. done_keeps t call at (free_within t call free).1 s
       | Some refusal ↦ λ _. s
     ] refl
 

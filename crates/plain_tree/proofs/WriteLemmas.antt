@@ -22,7 +22,7 @@ use Rattle.plain_tree.specs.Laws.{holding, holding_at, HasMoved}
 use Rattle.plain_tree.proofs.NodeLemmas.{changed_found, changed_missing}
 use Rattle.plain_tree.proofs.MoveLemmas.{same_is, same_self, not_true, below_Decides, below_join, back, get_moved, here_inserted, other_inserted}
 use Rattle.plain_tree.specs.Seen.{CanMove}
-use Rattle.plain_tree.proofs.Validity.{can_move, first_none, below_up}
+use Rattle.plain_tree.proofs.Validity.{can_move, first_none, free_within, below_up}
 
 -- what is written at an offset is read there
 some_bytes : (bytes : List ℕ) → bytes_of (map (λ b. Some b) bytes) ≡ Some bytes
@@ -81,7 +81,7 @@ read_written t path offset [] at some free = absurd (omega arith)
 read_written t path offset (b ∷ bytes) at some free =
     let new : List Cell = map (λ x. Some x) (b ∷ bytes) in
     let change : List Cell → List Cell = λ cells. written cells offset new in
-    let h = file_there t.nodes path (first_none (no_file t.nodes path) _ free).0 in
+    let h = file_there t.nodes path (first_none (no_file t.nodes path) _ (free_within t (Write path offset (b ∷ bytes)) free).1).0 in
     let nodes = changed_at (file_changed change at) path t.nodes in
     let found = changed_here t.nodes path (file_changed change at) h.node h.found in
     let kind = file_kind change at h.node h.cells h.is_file in
@@ -186,8 +186,9 @@ rename_keeps_nodes t from to at s free =
       | true ↦ λ same. stays_there (same_is from to same)
       | false ↦ λ differ.
           let m = t.nodes in
-          let can = can_move t from to s free differ in
-          let there = node_there m from (first_none (no_node m from) _ (first_none (at_root to) _ (first_none (at_root from) _ (first_none (bad_name to) _ free).1).1).1).0 in
+          let within = (free_within t (Rename from to) free).1 in
+          let can = can_move t from to s within differ in
+          let there = node_there m from (first_none (no_node m from) _ (first_none (at_root to) _ (first_none (at_root from) _ (first_none (bad_name to) _ within).1).1).1).0 in
           record {
             moved = λ x. holding_renamed m from to at (to ++ x) ∙ ap holding (moved_to m from to can x);
             below = λ x some. below_same m from to can there at x some;

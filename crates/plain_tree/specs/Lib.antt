@@ -7,6 +7,7 @@ pub mod Pages
 pub mod Paths
 pub mod RefusalNames
 pub mod Refusals
+pub mod Rows
 pub mod Seen
 pub mod Tree
 pub mod Valid

@@ -1,27 +1,37 @@
 -- Why a call is refused: the checks of each call, in order, of which the first that fails is the answer.
-use Rattle.std.specs.Prelude.{ℕ, zero, suc, ◌+◌, ◌^◌, List, [], ◌∷◌, Bool, true, false, ◌||◌, nat_le, nat_lt, ◌==◌}
+use Rattle.std.specs.Prelude.{ℕ, zero, suc, ◌+◌, ◌^◌, List, [], ◌∷◌, Bool, true, false, not, ◌||◌, ◌&&◌, nat_le, nat_lt, ◌==◌}
 use Rattle.std.specs.Prelude.{if◌then◌else◌, length, take, Option, Some, None, is_none, is_some}
 use Rattle.std.specs.FinMap as fin
 use Rattle.tape_types.specs.Bounds.{longest_file, most_nodes}
 use Rattle.tape_types.specs.Names.{name_fault}
+use Rattle.tape_types.specs.NodeKeys.Keys.{is_key}
 use Rattle.plain_tree.specs.declared.nodes.Node.{Node}
 use Rattle.plain_tree.specs.declared.nodes.Kind.{Kind}
 use Rattle.plain_tree.specs.declared.nodes.Kind.TheVariants as kinds
 use Rattle.plain_tree.specs.declared.calls.Call.{Call}
 use Rattle.plain_tree.specs.declared.calls.Call.TheVariants.{Mkdir, Create, Write, Truncate, Read, Listing, Stat}
-use Rattle.plain_tree.specs.declared.calls.Call.TheVariants.{Rename, Remove, Sync}
+use Rattle.plain_tree.specs.declared.calls.Call.TheVariants.{Rename, Remove, Setx, Getx, Dropx, Readonly}
+use Rattle.plain_tree.specs.declared.calls.Call.TheVariants.{LockVolume, UnlockVolume, PermLock, Sync}
+use Rattle.plain_tree.specs.declared.calls.LockState.{LockState}
+use Rattle.plain_tree.specs.declared.calls.LockState.TheVariants as locks
 use Rattle.plain_tree.specs.declared.calls.Refusal.{Refusal}
 use Rattle.plain_tree.specs.declared.calls.Refusal.TheVariants.{BadName, Root, NotFound, NotDir, IsDir, IsLink, Exists}
 use Rattle.plain_tree.specs.declared.calls.Refusal.TheVariants.{Inside, NotEmpty, TooLong, TooMany, Damaged}
+use Rattle.plain_tree.specs.declared.calls.Refusal.TheVariants.{BadKey, NoKey, ManyKeys, Locked, ReadOnly}
 use Rattle.plain_tree.specs.Cells.{range_of, bytes_of}
 use Rattle.plain_tree.specs.Paths.{Name, Path, same_path, parent_of, last_name, is_below}
-use Rattle.plain_tree.specs.Tree.{Tree, Nodes, cells_at, entries_in}
+use Rattle.plain_tree.specs.Tree.{Tree, Nodes, cells_at, entries_in, flag_at, key_count, value_at}
 
 -- the first check that fails
 abbrev pub first_of : List (Option Refusal) → Option Refusal
 first_of [] = None
 first_of (None ∷ later) = first_of later
 first_of (Some refusal ∷ later) = Some refusal
+
+-- the one check, and where it doesn't fail the other
+abbrev pub or_else : Option Refusal → Option Refusal → Option Refusal
+or_else None later = later
+or_else (Some refusal) later = Some refusal
 
 abbrev pub refuse_if : Bool → Refusal → Option Refusal
 refuse_if true refusal = Some refusal
@@ -106,26 +116,105 @@ not_empty nodes path = refuse_if (nat_lt 0 (length (entries_in nodes path))) Not
 abbrev pub damaged : Nodes → Path → ℕ → ℕ → Option Refusal
 damaged nodes path offset count = refuse_if (is_none (bytes_of (range_of (cells_at nodes path) offset count))) Damaged
 
+-- the node at the path is read-only
+abbrev pub read_only : Nodes → Path → Option Refusal
+read_only nodes path = refuse_if (flag_at nodes path) ReadOnly
+
+-- ---- keys
+
+abbrev pub bad_key : List ℕ → Option Refusal
+bad_key key = refuse_if (not (is_key key)) BadKey
+
+abbrev pub no_key : Nodes → Path → List ℕ → Option Refusal
+no_key nodes path key = refuse_if (is_none (value_at nodes path key)) NoKey
+
+-- so many keys a node may be given
+abbrev pub most_keys : ℕ
+most_keys = 256
+
+-- a node gets no further key where it has as many or more
+abbrev pub many_keys : Nodes → Path → List ℕ → Option Refusal
+many_keys nodes path key =
+    refuse_if (nat_le most_keys (key_count nodes path) && is_none (value_at nodes path key)) ManyKeys
+
+-- ---- the lock
+
+abbrev pub is_sealed : LockState → Bool
+is_sealed locks.PermLocked = true
+is_sealed _ = false
+
+abbrev pub is_locked : LockState → Bool
+is_locked locks.Locked = true
+is_locked locks.PermLocked = true
+is_locked _ = false
+
+-- a call that only looks, or asks that all is found again
+abbrev pub only_asks : Call → Bool
+only_asks (Read path offset count) = true
+only_asks (Listing path) = true
+only_asks (Stat path) = true
+only_asks (Getx path key) = true
+only_asks Sync = true
+only_asks _ = false
+
+-- a call that is about the lock itself
+abbrev pub sets_lock : Call → Bool
+sets_lock LockVolume = true
+sets_lock UnlockVolume = true
+sets_lock PermLock = true
+sets_lock _ = false
+
+-- The lock stands before all other checks. What only asks goes on under each lock, what sets the lock under each but
+-- that for ever, and all else under none.
+abbrev pub lock_refusal : LockState → Call → Option Refusal
+lock_refusal state call =
+    if only_asks call then None
+    else refuse_if (if sets_lock call then is_sealed state else is_locked state) Locked
+
+-- ---- each call
+
 -- a new node at the path
 abbrev pub new_refusal : Tree → Path → Option Refusal
 new_refusal t path =
-    first_of (bad_name path ∷ at_root path ∷ no_dir t.nodes (parent_of path) ∷ exists_at t.nodes path ∷ too_many t ∷ [])
+    first_of (bad_name path ∷ at_root path ∷ no_dir t.nodes (parent_of path) ∷ exists_at t.nodes path
+    ∷ read_only t.nodes (parent_of path) ∷ too_many t ∷ [])
 
 abbrev pub rename_refusal : Nodes → Path → Path → Option Refusal
 rename_refusal nodes from to =
     first_of (bad_name to ∷ at_root from ∷ at_root to ∷ no_node nodes from ∷ no_dir nodes (parent_of to)
-    ∷ (if same_path from to then None else first_of (exists_at nodes to ∷ refuse_if (is_below from to) Inside ∷ []))
+    ∷ (if same_path from to then None else first_of (exists_at nodes to ∷ refuse_if (is_below from to) Inside
+    ∷ read_only nodes (parent_of from) ∷ read_only nodes (parent_of to) ∷ []))
     ∷ [])
+
+-- a key of the node at the path
+abbrev pub key_refusal : Nodes → Path → List ℕ → Option Refusal
+key_refusal nodes path key =
+    first_of (bad_key key ∷ no_node nodes path ∷ read_only nodes path ∷ many_keys nodes path key ∷ [])
+
+-- the first refusal of a call but for the lock
+abbrev pub refusal_within : Tree → Call → Option Refusal
+refusal_within t (Mkdir path) = new_refusal t path
+refusal_within t (Create path) = new_refusal t path
+refusal_within t (Write path offset bytes) =
+    first_of (no_file t.nodes path ∷ read_only t.nodes path ∷ too_long (offset + length bytes) ∷ [])
+refusal_within t (Truncate path length) =
+    first_of (no_file t.nodes path ∷ read_only t.nodes path ∷ too_long length ∷ [])
+refusal_within t (Read path offset count) = first_of (no_file t.nodes path ∷ damaged t.nodes path offset count ∷ [])
+refusal_within t (Listing path) = no_dir t.nodes path
+refusal_within t (Stat path) = no_node t.nodes path
+refusal_within t (Rename from to) = rename_refusal t.nodes from to
+refusal_within t (Remove path) =
+    first_of (at_root path ∷ no_node t.nodes path ∷ not_empty t.nodes path ∷ read_only t.nodes (parent_of path) ∷ [])
+refusal_within t (Setx path key bytes) = key_refusal t.nodes path key
+refusal_within t (Getx path key) = first_of (no_node t.nodes path ∷ no_key t.nodes path key ∷ [])
+refusal_within t (Dropx path key) =
+    first_of (no_node t.nodes path ∷ no_key t.nodes path key ∷ read_only t.nodes path ∷ [])
+refusal_within t (Readonly path on) = no_node t.nodes path
+refusal_within t LockVolume = None
+refusal_within t UnlockVolume = None
+refusal_within t PermLock = None
+refusal_within t Sync = None
 
 -- the first refusal of a call, where it is refused
 abbrev pub refusal_of : Tree → Call → Option Refusal
-refusal_of t (Mkdir path) = new_refusal t path
-refusal_of t (Create path) = new_refusal t path
-refusal_of t (Write path offset bytes) = first_of (no_file t.nodes path ∷ too_long (offset + length bytes) ∷ [])
-refusal_of t (Truncate path length) = first_of (no_file t.nodes path ∷ too_long length ∷ [])
-refusal_of t (Read path offset count) = first_of (no_file t.nodes path ∷ damaged t.nodes path offset count ∷ [])
-refusal_of t (Listing path) = no_dir t.nodes path
-refusal_of t (Stat path) = no_node t.nodes path
-refusal_of t (Rename from to) = rename_refusal t.nodes from to
-refusal_of t (Remove path) = first_of (at_root path ∷ no_node t.nodes path ∷ not_empty t.nodes path ∷ [])
-refusal_of t Sync = None
+refusal_of t call = or_else (lock_refusal t.lock call) (refusal_within t call)

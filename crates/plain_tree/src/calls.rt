@@ -50,8 +50,44 @@ pub enum Call {
     Remove {
         path: List<Text>,
     },
+    /// Gives a key of a node its bytes, in place of those that it had.
+    Setx {
+        path: List<Text>,
+        key: Text,
+        bytes: Bytes,
+    },
+    /// Reads the bytes of a key.
+    Getx {
+        path: List<Text>,
+        key: Text,
+    },
+    /// Takes out a key with its bytes.
+    Dropx {
+        path: List<Text>,
+        key: Text,
+    },
+    /// Makes a node read-only, or no longer.
+    Readonly {
+        path: List<Text>,
+        on: bool,
+    },
+    /// Locks the volume.
+    LockVolume,
+    /// Takes the lock away, where there is one.
+    UnlockVolume,
+    /// Locks the volume for ever.
+    PermLock,
     /// Asks that all that was placed before is found again after a failure.
     Sync,
+}
+
+/// Whether a volume may be changed (LTFS 2.4 on the lock state). Absent is what an index without a lock state tells.
+#[derive(Clone, Copy, Debug, PartialEq, Eq)]
+pub enum LockState {
+    Absent,
+    Unlocked,
+    Locked,
+    PermLocked,
 }
 
 /// A call that changes the tree, with what it asks: paths, and of a write an offset and bytes, of a truncation a length.
@@ -63,6 +99,12 @@ pub enum Change<'a> {
     Truncate(&'a [Text], u64),
     Rename(&'a [Text], &'a [Text]),
     Remove(&'a [Text]),
+    Setx(&'a [Text], &'a Text, &'a Bytes),
+    Dropx(&'a [Text], &'a Text),
+    Readonly(&'a [Text], bool),
+    LockVolume,
+    UnlockVolume,
+    PermLock,
 }
 
 /// What a node is.
@@ -117,6 +159,16 @@ pub enum Refusal {
     TooMany,
     /// A byte of the range is lost on the tape.
     Damaged,
+    /// The key is one that no attribute may have.
+    BadKey,
+    /// The node has no such key.
+    NoKey,
+    /// The node has 256 keys or more, and this isn't one of them.
+    ManyKeys,
+    /// The volume is locked.
+    Locked,
+    /// The node is read-only.
+    ReadOnly,
 }
 
 /// What a call is answered.
@@ -146,11 +198,14 @@ pub struct Placed {
     pub fate: Fate,
 }
 
-impl fmt::Display for Refusal {
-    ghost output = { λ r. Some (refusal_name r) };
+impl Refusal {
+    ghost use Rattle.std.specs.Prelude.{◌≡◌};
 
-    fn fmt<W: fmt::Write>(&self, f: &mut fmt::Formatter<W>) -> fmt::Result {
-        let name = match self {
+    /// How the refusal is printed.
+    pub fn as_str(self) -> &'static str
+        ensures { result.now ≡ refusal_name self }
+    {
+        match self {
             Refusal::BadName => "BadName",
             Refusal::Root => "Root",
             Refusal::NotFound => "NotFound",
@@ -163,7 +218,19 @@ impl fmt::Display for Refusal {
             Refusal::TooLong => "TooLong",
             Refusal::TooMany => "TooMany",
             Refusal::Damaged => "Damaged",
-        };
-        f.write_str(name)
+            Refusal::BadKey => "BadKey",
+            Refusal::NoKey => "NoKey",
+            Refusal::ManyKeys => "ManyKeys",
+            Refusal::Locked => "Locked",
+            Refusal::ReadOnly => "ReadOnly",
+        }
+    }
+}
+
+impl fmt::Display for Refusal {
+    ghost output = { λ r. Some (refusal_name r) };
+
+    fn fmt<W: fmt::Write>(&self, f: &mut fmt::Formatter<W>) -> fmt::Result {
+        f.write_str(self.as_str())
     }
 }

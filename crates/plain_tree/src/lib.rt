@@ -16,11 +16,12 @@ mod paths;
 mod plain;
 mod refusals;
 
-pub use calls::{Answer, Call, Change, Entry, Facts, Fate, Placed, Refusal, Sort};
-pub use keys::NodeKeys;
+pub use calls::{Answer, Call, Change, Entry, Facts, Fate, LockState, Placed, Refusal, Sort};
+pub use keys::{MOST_KEYS, NodeKeys};
 pub use laws::{
-    attributes_stay, listings_are_exact, reads_see_writes, refused_calls_change_nothing,
-    renames_keep_nodes, trees_stay_valid, uids_never_return,
+    keys_are_maps, listings_are_exact, locks_hold, nodes_stay, read_only_directories_stay,
+    reads_see_writes, refused_calls_change_nothing, renames_keep_nodes, rows_are_worked,
+    trees_stay_valid, uids_never_return,
 };
 pub use lines::Lines;
 pub use nodes::{Kind, Node};

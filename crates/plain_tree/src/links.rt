@@ -4,14 +4,13 @@ ghost use Rattle.std.specs.List.Sorted.{IsStrictlySortedBy};
 ghost use Rattle.std.specs.Option.{option_copied, option_map};
 ghost use Rattle.std.specs.Ordering.{nat_cmp};
 ghost use Rattle.std.specs.BTreeMap.{get, IsUnchanged};
-ghost use Rattle.tape_types.specs.Bounds.{longest_file};
-ghost use Rattle.plain_tree.specs.Tree.{changed_by, sort_of, written_to};
+ghost use Rattle.plain_tree.specs.Tree.{changed_by, sort_of, written_by, CanWrite};
 ghost use Rattle.plain_tree.specs.Links.{child, walk, name_cmp, lines, lines_of, IsPut, IsPutIn, IsMovedTo, IsSame};
 ghost use Rattle.plain_tree.specs.Links.{IsLast};
 ghost use Rattle.plain_tree.specs.Paths.{Name};
 
 use crate::calls::Entry;
-use crate::changes::{NodeChange, change_node, put_node, sort_of, write_node};
+use crate::changes::{NodeChange, NodeWrite, change_node, put_node, sort_of, write_node};
 use crate::keys::NodeKeys;
 use crate::nodes::{Kind, Node};
 use std::alloc::Global;
@@ -117,32 +116,31 @@ impl Links {
     }
 
     /// Changes what stands under a name of a directory.
-    pub fn change(&mut self, uid: u64, name: &Text, change: NodeChange, at: Moment)
+    pub fn change(&mut self, uid: u64, name: &Text, change: NodeChange<'_>, at: Moment)
         ensures { IsPut (child self.old) (child self.new) uid name.now
-            (option_map (changed_by change at) (child self.old uid name.now)) }
+            (option_map (changed_by change.entry at) (child self.old uid name.now)) }
     {
         if let Some(names) = self.dirs.get_mut(&uid) {
             change_name(names, name, change, at);
         }
     }
 
-    /// Puts bytes into what stands under a name of a directory, or changes nothing.
+    /// Makes a change that takes memory of what stands under a name of a directory, or changes nothing.
     pub fn write(
         &mut self,
+        alloc: Global,
         uid: u64,
         name: &Text,
-        offset: u64,
-        bytes: &[u8],
+        write: NodeWrite<'_>,
         at: Moment,
     ) -> Result<(), NoMemory>
-        requires some { 0 < length bytes.now }
-        requires fits { offset + length bytes.now ≤ longest_file }
+        requires { CanWrite write }
         ensures ok { OnOk result (IsPut (child self.old) (child self.new) uid name.now
-            (option_map (written_to offset bytes.now at) (child self.old uid name.now))) }
+            (option_map (written_by write.entry at) (child self.old uid name.now))) }
         ensures err { OnErr result (IsSame (child self.old) (child self.new)) }
     {
         match self.dirs.get_mut(&uid) {
-            Some(names) => write_name(names, name, offset, bytes, at),
+            Some(names) => write_name(names, alloc, name, write, at),
             None => Ok(()),
         }
     }
@@ -204,9 +202,9 @@ fn put_name(names: &mut Names, name: Text, node: Node) -> Result<(), NoMemory>
     Ok(())
 }
 
-fn change_name(names: &mut Names, name: &Text, change: NodeChange, at: Moment)
+fn change_name(names: &mut Names, name: &Text, change: NodeChange<'_>, at: Moment)
     ensures { IsPutIn names.old names.new name.now
-        (option_map (changed_by change at) (get name_cmp names.old name.now)) }
+        (option_map (changed_by change.entry at) (get name_cmp names.old name.now)) }
 {
     if let Some(node) = names.get_mut(name) {
         change_node(node, change, at);
@@ -215,19 +213,18 @@ fn change_name(names: &mut Names, name: &Text, change: NodeChange, at: Moment)
 
 fn write_name(
     names: &mut Names,
+    alloc: Global,
     name: &Text,
-    offset: u64,
-    bytes: &[u8],
+    write: NodeWrite<'_>,
     at: Moment,
 ) -> Result<(), NoMemory>
-    requires some { 0 < length bytes.now }
-    requires fits { offset + length bytes.now ≤ longest_file }
+    requires { CanWrite write }
     ensures ok { OnOk result (IsPutIn names.old names.new name.now
-        (option_map (written_to offset bytes.now at) (get name_cmp names.old name.now))) }
+        (option_map (written_by write.entry at) (get name_cmp names.old name.now))) }
     ensures err { OnErr result ((n : Name) → get name_cmp names.new n ≡ get name_cmp names.old n) }
 {
     match names.get_mut(name) {
-        Some(node) => write_node(node, offset, bytes, at),
+        Some(node) => write_node(node, alloc, write, at),
         None => Ok(()),
     }
 }

@@ -1,21 +1,24 @@
-ghost use Rattle.std.specs.Prelude.{◌≡◌, ◌<◌, ◌+◌, ◌^◌, [], length, None, OnOk, OnErr, IfOk, IfNone};
+ghost use Rattle.std.specs.Prelude.{◌≡◌, ℕ, List, ◌<◌, ◌+◌, ◌^◌, [], length, None, OnOk, OnErr, IfOk, IfNone};
 ghost use Rattle.std.specs.Result.{result_err};
-ghost use Rattle.plain_tree.specs.Refusals.{new_refusal, rename_refusal, no_file};
+ghost use Rattle.plain_tree.specs.Refusals.{key_refusal, new_refusal, rename_refusal, no_file};
 ghost use Rattle.plain_tree.specs.Valid.{IsValid};
-ghost use Rattle.plain_tree.specs.Tree.{empty_tree, facts_of, sort_of, cells_at};
-ghost use Rattle.plain_tree.specs.Calls.{after, after_unless, answer, answer_unless, with_new, with_length};
+ghost use Rattle.plain_tree.specs.Tree.{empty_tree, facts_of, flag_at, has_value, same_flag, sort_of, cells_at};
+ghost use Rattle.plain_tree.specs.Calls.{after, after_unless, after_within, answer, answer_unless, answer_within, unlocked, with_new};
 
-use crate::calls::{Answer, Call, Facts, Refusal};
-use crate::changes::{NodeChange, new_node, sort_of};
+use crate::calls::{Answer, Call, Facts, LockState, Refusal};
+use crate::changes::{NodeChange, NodeWrite, new_node, sort_of};
+use crate::keys::MOST_KEYS;
 use crate::lines::Lines;
 use crate::node_map::NodeMap;
 use crate::nodes::{Kind, Node};
 use crate::paged::PagedFile;
 use crate::paths::{is_below, parent, same_path};
-use crate::refusals::{bad_name, no_dir, no_file, no_node};
+use crate::refusals::{
+    bad_key, bad_name, lock_refusal, no_dir, no_file, no_key, no_node, read_only,
+};
 use std::alloc::Global;
 use std::marker::Model;
-use tape_types::{LONGEST_FILE, MOST_NODES, Moment, NoMemory, Text};
+use tape_types::{Bytes, LONGEST_FILE, MOST_NODES, Moment, NoMemory, Text};
 
 const LAST_UID: u64 = 1 << 62;
 
@@ -23,6 +26,7 @@ const LAST_UID: u64 = 1 << 62;
 #[derive(Drop)]
 pub struct MapTree {
     highest: u64,
+    lock: LockState,
     nodes: NodeMap,
     alloc: Global,
 }
@@ -30,19 +34,22 @@ pub struct MapTree {
 impl Model for MapTree {
     ghost use Rattle.std.specs.Prelude.{ℕ, refl};
     ghost use Rattle.std.specs.FinMap as fin;
-    ghost use Rattle.std.specs.Coded.{coded_list, coded_ℕ, coded×, code_by};
+    ghost use Rattle.std.specs.Coded.{codes, coded_list, coded_ℕ};
     ghost use Rattle.plain_tree.specs.declared.nodes.Node.{Node};
     ghost use Rattle.plain_tree.specs.contracts.nodes.Node as node;
+    ghost use Rattle.plain_tree.specs.contracts.calls.LockState as state;
     ghost use Rattle.plain_tree.specs.Paths.{path_cmp};
     ghost use Rattle.plain_tree.specs.Tree.{Tree};
 
     ghost Value = { Tree };
 
-    ghost coded = { code_by (ℕ × fin.FinMap path_cmp Node)
-        (coded× coded_ℕ (fin.code (coded_list (coded_list coded_ℕ)) node.the_row.coded))
-        (λ t. (t.highest, t.nodes)) (λ p. record { highest = p.0; nodes = p.1 }) (λ _. refl) };
+    ghost coded = { Prim.hlevel (
+      codes,
+      state.the_row.coded,
+      fin.code {R = path_cmp} (coded_list (coded_list coded_ℕ)) node.the_row.coded,
+    ) };
 
-    ghost view = { λ a. record { highest = a.highest; nodes = a.nodes } };
+    ghost view = { λ a. record { highest = a.highest; lock = a.lock; nodes = a.nodes } };
 }
 
 impl MapTree {
@@ -52,6 +59,7 @@ impl MapTree {
     {
         Ok(MapTree {
             highest: 1,
+            lock: LockState::Absent,
             nodes: NodeMap::new(alloc, at),
             alloc,
         })
@@ -62,6 +70,19 @@ impl MapTree {
         requires { IsValid self.old }
         ensures answer { IfOk result (λ a. a ≡ answer self.old call.now) }
         ensures after { OnOk result (self.new ≡ after self.old call.now at) }
+        ensures err { OnErr result (self.new ≡ self.old) }
+    {
+        match lock_refusal(self.lock, call) {
+            Some(refusal) => Ok(Answer::Refused(refusal)),
+            None => self.apply_within(call, at),
+        }
+    }
+
+    /// The same of a call that the lock doesn't refuse.
+    fn apply_within(&mut self, call: &Call, at: Moment) -> Result<Answer, NoMemory>
+        requires { IsValid self.old }
+        ensures answer { IfOk result (λ a. a ≡ answer_within self.old call.now) }
+        ensures after { OnOk result (self.new ≡ after_within self.old call.now at) }
         ensures err { OnErr result (self.new ≡ self.old) }
     {
         match call {
@@ -85,6 +106,13 @@ impl MapTree {
             Call::Stat { path } => self.stat(path.as_slice()),
             Call::Rename { from, to } => self.rename(from.as_slice(), to.as_slice(), at),
             Call::Remove { path } => Ok(self.remove(path.as_slice(), at)),
+            Call::Setx { path, key, bytes } => self.set_key(path.as_slice(), key, bytes, at),
+            Call::Getx { path, key } => self.get_key(path.as_slice(), key),
+            Call::Dropx { path, key } => Ok(self.drop_key(path.as_slice(), key, at)),
+            Call::Readonly { path, on } => Ok(self.set_flag(path.as_slice(), *on, at)),
+            Call::LockVolume => Ok(self.set_lock(LockState::Locked)),
+            Call::UnlockVolume => Ok(self.unlock()),
+            Call::PermLock => Ok(self.set_lock(LockState::PermLocked)),
             Call::Sync => Ok(Answer::Synced),
         }
     }
@@ -114,40 +142,48 @@ impl MapTree {
         bytes: &[u8],
         at: Moment,
     ) -> Result<Answer, NoMemory>
-        ensures answer { IfOk result (λ a. a ≡ answer self.old (Call.Write path.now offset bytes.now)) }
-        ensures after { OnOk result (self.new ≡ after self.old (Call.Write path.now offset bytes.now) at) }
+        ensures answer { IfOk result (λ a. a ≡ answer_within self.old (Call.Write path.now offset bytes.now)) }
+        ensures after { OnOk result (self.new ≡ after_within self.old (Call.Write path.now offset bytes.now) at) }
         ensures err { OnErr result (self.new ≡ self.old) }
     {
         if let Some(refusal) = no_file(&self.nodes, path) {
+            return Ok(Answer::Refused(refusal));
+        }
+        if let Some(refusal) = read_only(&self.nodes, path) {
             return Ok(Answer::Refused(refusal));
         }
         if offset > LONGEST_FILE || bytes.len() as u64 > LONGEST_FILE - offset {
             return Ok(Answer::Refused(Refusal::TooLong));
         }
         if !bytes.is_empty() {
-            self.nodes.write(path, offset, bytes, at)?;
+            self.nodes
+                .write(self.alloc, path, NodeWrite::File(offset, bytes), at)?;
         }
         Ok(Answer::Done)
     }
 
     fn truncate(&mut self, path: &[Text], size: u64, at: Moment) -> Answer
-        ensures answer { result ≡ answer self.old (Call.Truncate path.now size) }
-        ensures after { self.new ≡ after self.old (Call.Truncate path.now size) at }
+        ensures answer { result ≡ answer_within self.old (Call.Truncate path.now size) }
+        ensures after { self.new ≡ after_within self.old (Call.Truncate path.now size) at }
     {
-        match file_length(&self.nodes, path) {
-            Err(refusal) => Answer::Refused(refusal),
-            Ok(_) if size > LONGEST_FILE => Answer::Refused(Refusal::TooLong),
-            Ok(present) => {
-                if size != present {
-                    self.nodes.change(path, NodeChange::Resize(size), at);
-                }
-                Answer::Done
-            }
+        let present = match file_length(&self.nodes, path) {
+            Err(refusal) => return Answer::Refused(refusal),
+            Ok(present) => present,
+        };
+        if let Some(refusal) = read_only(&self.nodes, path) {
+            return Answer::Refused(refusal);
         }
+        if size > LONGEST_FILE {
+            return Answer::Refused(Refusal::TooLong);
+        }
+        if size != present {
+            self.nodes.change(path, NodeChange::Resize(size), at);
+        }
+        Answer::Done
     }
 
     fn read(&self, path: &[Text], offset: u64, count: u64) -> Result<Answer, NoMemory>
-        ensures { IfOk result (λ a. a ≡ answer self.now (Call.Read path.now offset count)) }
+        ensures { IfOk result (λ a. a ≡ answer_within self.now (Call.Read path.now offset count)) }
     {
         match self.nodes.find(path) {
             Err(refusal) => Ok(Answer::Refused(refusal)),
@@ -160,7 +196,7 @@ impl MapTree {
     }
 
     fn list(&self, path: &[Text]) -> Result<Answer, NoMemory>
-        ensures { IfOk result (λ a. a ≡ answer self.now (Call.Listing path.now)) }
+        ensures { IfOk result (λ a. a ≡ answer_within self.now (Call.Listing path.now)) }
     {
         match no_dir(&self.nodes, path) {
             Some(refusal) => Ok(Answer::Refused(refusal)),
@@ -173,8 +209,8 @@ impl MapTree {
 
     fn remove(&mut self, path: &[Text], at: Moment) -> Answer
         requires { IsValid self.old }
-        ensures answer { result ≡ answer self.old (Call.Remove path.now) }
-        ensures after { self.new ≡ after self.old (Call.Remove path.now) at }
+        ensures answer { result ≡ answer_within self.old (Call.Remove path.now) }
+        ensures after { self.new ≡ after_within self.old (Call.Remove path.now) at }
     {
         if path.is_empty() {
             return Answer::Refused(Refusal::Root);
@@ -185,13 +221,137 @@ impl MapTree {
         if self.nodes.has_entries(path) {
             return Answer::Refused(Refusal::NotEmpty);
         }
+        if let Some(refusal) = read_only(&self.nodes, parent(path)) {
+            return Answer::Refused(refusal);
+        }
         self.nodes.remove(path);
         self.nodes.change(parent(path), NodeChange::Touch, at);
         Answer::Done
     }
 
+    fn set_key(
+        &mut self,
+        path: &[Text],
+        key: &Text,
+        bytes: &Bytes,
+        at: Moment,
+    ) -> Result<Answer, NoMemory>
+        ensures answer { IfOk result (λ a. a ≡ answer_within self.old (Call.Setx path.now key.now bytes.now)) }
+        ensures after { OnOk result (self.new ≡ after_within self.old (Call.Setx path.now key.now bytes.now) at) }
+        ensures err { OnErr result (self.new ≡ self.old) }
+    {
+        if let Some(refusal) = self.key_refusal(path, key) {
+            return Ok(Answer::Refused(refusal));
+        }
+        if !self.has_value(path, key, bytes) {
+            self.nodes
+                .write(self.alloc, path, NodeWrite::Key(key, bytes), at)?;
+        }
+        Ok(Answer::Done)
+    }
+
+    /// Why a node gets no such key.
+    fn key_refusal(&self, path: &[Text], key: &Text) -> Option<Refusal>
+        ensures { result ≡ key_refusal self.now.nodes path.now key.now }
+    {
+        if let Some(refusal) = bad_key(key) {
+            return Some(refusal);
+        }
+        match self.nodes.find(path) {
+            Err(refusal) => Some(refusal),
+            Ok(node) if node.readonly => Some(Refusal::ReadOnly),
+            Ok(node) if node.keys.len() >= MOST_KEYS && node.keys.get(key.as_str()).is_none() => {
+                Some(Refusal::ManyKeys)
+            }
+            Ok(_) => None,
+        }
+    }
+
+    /// Whether a key of the node at a path has these bytes.
+    fn has_value(&self, path: &[Text], key: &Text, bytes: &Bytes) -> bool
+        ensures { result ≡ has_value self.now.nodes path.now key.now bytes.now }
+    {
+        match self.nodes.find(path) {
+            Err(_) => false,
+            Ok(node) => match node.keys.get(key.as_str()) {
+                None => false,
+                Some(value) => value.as_slice() == bytes.as_slice(),
+            },
+        }
+    }
+
+    fn get_key(&self, path: &[Text], key: &Text) -> Result<Answer, NoMemory>
+        ensures { IfOk result (λ a. a ≡ answer_within self.now (Call.Getx path.now key.now)) }
+    {
+        match self.nodes.find(path) {
+            Err(refusal) => Ok(Answer::Refused(refusal)),
+            Ok(node) => match node.keys.get(key.as_str()) {
+                None => Ok(Answer::Refused(Refusal::NoKey)),
+                Some(value) => Ok(Answer::Got(value.try_clone(self.alloc)?)),
+            },
+        }
+    }
+
+    fn drop_key(&mut self, path: &[Text], key: &Text, at: Moment) -> Answer
+        ensures answer { result ≡ answer_within self.old (Call.Dropx path.now key.now) }
+        ensures after { self.new ≡ after_within self.old (Call.Dropx path.now key.now) at }
+    {
+        if let Some(refusal) = no_node(&self.nodes, path) {
+            return Answer::Refused(refusal);
+        }
+        if let Some(refusal) = no_key(&self.nodes, path, key) {
+            return Answer::Refused(refusal);
+        }
+        if let Some(refusal) = read_only(&self.nodes, path) {
+            return Answer::Refused(refusal);
+        }
+        self.nodes.change(path, NodeChange::DropKey(key), at);
+        Answer::Done
+    }
+
+    fn set_flag(&mut self, path: &[Text], on: bool, at: Moment) -> Answer
+        ensures answer { result ≡ answer_within self.old (Call.Readonly path.now on) }
+        ensures after { self.new ≡ after_within self.old (Call.Readonly path.now on) at }
+    {
+        if let Some(refusal) = no_node(&self.nodes, path) {
+            return Answer::Refused(refusal);
+        }
+        if !same_flag(self.flag_at(path), on) {
+            self.nodes.change(path, NodeChange::Flag(on), at);
+        }
+        Answer::Done
+    }
+
+    /// Whether the node at a path is read-only.
+    fn flag_at(&self, path: &[Text]) -> bool
+        ensures { result ≡ flag_at self.now.nodes path.now }
+    {
+        match self.nodes.find(path) {
+            Err(_) => false,
+            Ok(node) => node.readonly,
+        }
+    }
+
+    fn set_lock(&mut self, state: LockState) -> Answer
+        ensures answer { result ≡ Answer.Done }
+        ensures after { self.new ≡ record self.old { lock = state } }
+    {
+        self.lock = state;
+        Answer::Done
+    }
+
+    fn unlock(&mut self) -> Answer
+        ensures answer { result ≡ Answer.Done }
+        ensures after { self.new ≡ record self.old { lock = unlocked self.old.lock } }
+    {
+        if self.lock == LockState::Locked {
+            self.lock = LockState::Unlocked;
+        }
+        Answer::Done
+    }
+
     fn stat(&self, path: &[Text]) -> Result<Answer, NoMemory>
-        ensures { IfOk result (λ a. a ≡ answer self.now (Call.Stat path.now)) }
+        ensures { IfOk result (λ a. a ≡ answer_within self.now (Call.Stat path.now)) }
     {
         match self.nodes.find(path) {
             Err(refusal) => Ok(Answer::Refused(refusal)),
@@ -201,8 +361,8 @@ impl MapTree {
 
     fn rename(&mut self, from: &[Text], to: &[Text], at: Moment) -> Result<Answer, NoMemory>
         requires { IsValid self.old }
-        ensures answer { IfOk result (λ a. a ≡ answer self.old (Call.Rename from.now to.now)) }
-        ensures after { OnOk result (self.new ≡ after self.old (Call.Rename from.now to.now) at) }
+        ensures answer { IfOk result (λ a. a ≡ answer_within self.old (Call.Rename from.now to.now)) }
+        ensures after { OnOk result (self.new ≡ after_within self.old (Call.Rename from.now to.now) at) }
         ensures err { OnErr result (self.new ≡ self.old) }
     {
         if let Some(refusal) = self.rename_refusal(from, to)? {
@@ -242,7 +402,10 @@ impl MapTree {
         if is_below(from, to) {
             return Ok(Some(Refusal::Inside));
         }
-        Ok(None)
+        match read_only(&self.nodes, parent(from)) {
+            Some(refusal) => Ok(Some(refusal)),
+            None => Ok(read_only(&self.nodes, parent(to))),
+        }
     }
 
     /// Why a new node may not stand at the path.
@@ -262,11 +425,20 @@ impl MapTree {
         if self.nodes.contains(path) {
             return Ok(Some(Refusal::Exists));
         }
+        if let Some(refusal) = read_only(&self.nodes, parent(path)) {
+            return Ok(Some(refusal));
+        }
         if self.nodes.len() >= MOST_NODES as usize || self.highest >= LAST_UID {
             return Ok(Some(Refusal::TooMany));
         }
         Ok(None)
     }
+}
+
+fn same_flag(flag: bool, on: bool) -> bool
+    ensures { result ≡ same_flag flag on }
+{
+    if on { flag } else { !flag }
 }
 
 /// The length of the file at a path, or why it is no file.

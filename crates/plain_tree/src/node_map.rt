@@ -1,8 +1,7 @@
-ghost use Rattle.tape_types.specs.Bounds.{longest_file};
 ghost use Rattle.plain_tree.specs.Seen.{Seen, Seen-prop};
 
 use crate::calls::{Entry, Refusal};
-use crate::changes::{NodeChange, change_node, missing_below, new_node, write_node};
+use crate::changes::{NodeChange, NodeWrite, change_node, missing_below, new_node, write_node};
 use crate::links::Links;
 use crate::nodes::{Kind, Node};
 use std::alloc::Global;
@@ -40,7 +39,7 @@ impl NodeMap {
     ghost use Rattle.std.specs.Prelude.{IsSome, OnOk, OnErr, IfOk, IfErr, IfSome, IfNone};
     ghost use Rattle.std.specs.FinMap as fin;
     ghost use Rattle.plain_tree.specs.Paths.{parent_of};
-    ghost use Rattle.plain_tree.specs.Tree.{changed_at, changed_by, written_to, entries_in, empty_tree, moved};
+    ghost use Rattle.plain_tree.specs.Tree.{changed_at, changed_by, written_by, CanWrite, entries_in, empty_tree, moved};
     ghost use Rattle.plain_tree.specs.Seen.{IsMissing, IsPlace, CanStand, CanLeave, CanMove};
 
     /// The root alone, which has uid 1.
@@ -160,8 +159,8 @@ impl NodeMap {
     }
 
     /// Changes the node at a path, where there is one.
-    pub fn change(&mut self, path: &[Text], change: NodeChange, at: Moment)
-        ensures { self.new ≡ changed_at (changed_by change at) path.now self.old }
+    pub fn change(&mut self, path: &[Text], change: NodeChange<'_>, at: Moment)
+        ensures { self.new ≡ changed_at (changed_by change.entry at) path.now self.old }
     {
         if path.is_empty() {
             change_node(&mut self.root, change, at);
@@ -172,27 +171,26 @@ impl NodeMap {
         }
     }
 
-    /// Puts bytes into the file at a path and touches it, or changes nothing.
+    /// Makes a change that takes memory of the node at a path, where there is one, or changes nothing.
     pub fn write(
         &mut self,
+        alloc: Global,
         path: &[Text],
-        offset: u64,
-        bytes: &[u8],
+        write: NodeWrite<'_>,
         at: Moment,
     ) -> Result<(), NoMemory>
-        requires some { 0 < length bytes.now }
-        requires fits { offset + length bytes.now ≤ longest_file }
-        ensures ok { OnOk result (self.new ≡ changed_at (written_to offset bytes.now at) path.now self.old) }
+        requires { CanWrite write }
+        ensures ok { OnOk result (self.new ≡ changed_at (written_by write.entry at) path.now self.old) }
         ensures err { OnErr result (self.new ≡ self.old) }
     {
         if path.is_empty() {
-            write_node(&mut self.root, offset, bytes, at)?;
+            write_node(&mut self.root, alloc, write, at)?;
             return Ok(());
         }
         let Some((uid, name)) = self.place(path) else {
             return Ok(());
         };
-        self.links.write(uid, name, offset, bytes, at)?;
+        self.links.write(alloc, uid, name, write, at)?;
         Ok(())
     }
 }

@@ -17,18 +17,21 @@ pub struct Plain {
 impl Model for Plain {
     ghost use Rattle.std.specs.FinMap as fin;
     ghost use Rattle.std.specs.Prelude.{ℕ, refl};
-    ghost use Rattle.std.specs.Coded.{coded_list, coded_ℕ, coded×, code_by};
+    ghost use Rattle.std.specs.Coded.{codes, coded_list, coded_ℕ};
     ghost use Rattle.plain_tree.specs.declared.nodes.Node.{Node};
     ghost use Rattle.plain_tree.specs.contracts.nodes.Node as node;
+    ghost use Rattle.plain_tree.specs.contracts.calls.LockState as state;
     ghost use Rattle.plain_tree.specs.Paths.{path_cmp};
     ghost use Rattle.plain_tree.specs.Tree.{Tree};
     ghost use Rattle.plain_tree.specs.Valid.{IsValid};
 
     ghost Value = { Tree };
 
-    ghost coded = { code_by (ℕ × fin.FinMap path_cmp Node)
-        (coded× coded_ℕ (fin.code (coded_list (coded_list coded_ℕ)) node.the_row.coded))
-        (λ t. (t.highest, t.nodes)) (λ p. record { highest = p.0; nodes = p.1 }) (λ _. refl) };
+    ghost coded = { Prim.hlevel (
+      codes,
+      state.the_row.coded,
+      fin.code {R = path_cmp} (coded_list (coded_list coded_ℕ)) node.the_row.coded,
+    ) };
 
     ghost view = { λ a. a.tree };
 
