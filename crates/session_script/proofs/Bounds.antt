@@ -1,6 +1,6 @@
 -- A script that grows within its limits.
 use Rattle.std.proofs.Common.{◌≡◌, ◌≢◌, ℕ, zero, suc, ◌+◌, ◌*◌, ◌<◌, ◌≤◌, Bool, true, false, cond, eqb, List, [], ◌∷◌, ◌++◌, length, sum_by, sym, ap, ◌∙◌, refl, subst, arith, ⊎_elim, Some, None, Ok, Err, ne_eqb, map}
-use Rattle.std.specs.Prelude.{Option, Result, nat_le, nat_eq, ◌&&◌, not, filter, option_and_then, codes}
+use Rattle.std.specs.Prelude.{Option, Result, IfOk, IfSome, nat_le, nat_eq, ◌&&◌, not, filter, option_and_then, codes}
 use Rattle.std.specs.List.{starts_with}
 use Rattle.std.specs.Str.{is_utf8}
 use Rattle.std.proofs.lemmas.Bool.{cases_eq, eq-eqb, leb-false, ltb-false, or_parts}
@@ -8,13 +8,15 @@ use Rattle.std.proofs.lemmas.List.Sums.{sum_by-append}
 use Rattle.std.proofs.lemmas.Bool.Decides.{nat_tests}
 use Rattle.plain_tree.specs.declared.calls.Call.{Call}
 use Rattle.session_script.specs.Bounds.{most_asked, most_calls, most_in_all, most_sessions, most_written}
+use Rattle.session_script.specs.declared.faults.LineFault.{LineFault}
 use Rattle.session_script.specs.declared.scripts.ScriptLine.{ScriptLine}
 use Rattle.session_script.specs.declared.scripts.ScriptWhy.{ScriptWhy}
 use Rattle.session_script.specs.declared.scripts.ScriptWhy.TheVariants as reasons
 use Rattle.session_script.specs.Words.{words_of, number_of, session_of}
 use Rattle.session_script.specs.Grammar.{calls_of, bytes_written, bytes_asked, limit_passed, unless_passed, limited, is_skipped, line_of, read_as, with_session, call_of, spelled_by}
 use Rattle.session_script.specs.Sessions.{HasSessions}
-use Rattle.session_script.specs.Limits.{IsBounded}
+use Rattle.session_script.specs.Limits.{CanFollow, IsBounded}
+use Rattle.session_script.specs.Readings.{IsRead}
 use Rattle.session_script.proofs.SessionLemmas.{length-calls_more, HasSessions-more}
 
 -- one where it is so, else none
@@ -159,3 +161,14 @@ line_spelled before line spelled e = top (is_utf8 line) (is_skipped line) (spell
 -- a line that is taken is of one of the 16 sessions
 pub line_session : (before : List ScriptLine) (line : List ℕ) (spelled : ScriptLine) → line_of before line ≡ Ok (Some spelled) → (1 ≤ spelled.who) × (spelled.who ≤ most_sessions)
 line_session before line spelled e = spelled_session (words_of line) spelled (line_spelled before line spelled e).0
+
+-- what is read of a line can follow the lines before it
+pub can_follow : (before : List ScriptLine) (line : List ℕ) (r : Result (Option ScriptLine) LineFault) → IsRead r (line_of before line) → IfOk r (λ read. IfSome read (CanFollow before))
+can_follow before line (Ok None) h = tt
+can_follow before line (Ok (Some spelled)) h =
+    let session = line_session before line spelled h in record {
+      low = session.0;
+      high = session.1;
+      limited = (line_spelled before line spelled h).1;
+    }
+can_follow before line (Err why) h = tt

@@ -3,9 +3,10 @@ pub mod Bounds
 pub mod BytesLaws
 pub mod CallLaws
 pub mod EscapedBytes
+pub mod Fillings
+pub mod FormLaws
 pub mod GrammarLaws
 pub mod HexBytes
-pub mod HexText
 pub mod HistoryLemmas
 pub mod LineLaws
 pub mod MadeLemmas

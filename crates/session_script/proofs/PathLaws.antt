@@ -10,8 +10,8 @@ use Rattle.std.proofs.lemmas.List.Elements.{All-from_recursion}
 use Rattle.std.proofs.lemmas.List.Splits.{join_with_byte-slice_split, slice_split_none, slice_split_at, length-slice_split}
 use Rattle.std.proofs.lemmas.Str.{IsUtf8-from_is_utf8, is_utf8-from_IsUtf8}
 use Rattle.percent_encoding.specs.Percent.{percent_decode}
-use Rattle.session_script.specs.Words.{is_empty, text_of, name_of, names_of, path_of}
-use Rattle.session_script.specs.ScriptText.{Lacks, SpellsName, SpellsNames, SpellsPath, IsJoined}
+use Rattle.session_script.specs.Words.{is_empty, text_of, unescaped, name_of, names_of, path_of}
+use Rattle.session_script.specs.ScriptText.{Lacks, SpellsText, SpellsName, SpellsNames, SpellsPath, IsJoined}
 use Rattle.session_script.proofs.NumberLaws.{some_if}
 
 -- a piece without the byte has no element that is it
@@ -65,20 +65,27 @@ not_empty (b ∷ piece) h = omega arith
 pub empty_no : (piece : List ℕ) → 1 ≤ length piece → is_empty piece ≡ false
 empty_no piece h = ne_eqb (length piece) 0 (λ e. omega arith)
 
-name_found : (piece name : List ℕ) → Lacks 47 piece → name_of piece ≡ Some name → SpellsName piece name
-name_found piece name free e =
-    let outer = none_unless (is_empty piece) (text_of (percent_decode piece)) name e in
-    let inner = some_if (is_utf8 (percent_decode piece)) (percent_decode piece) name outer.1 in record {
-      some = not_empty piece outer.0;
-      no_slash = free;
+-- a word that is read as a text spells it
+pub text_found : (word text : List ℕ) → unescaped word ≡ Some text → SpellsText word text
+text_found word text e =
+    let outer = none_unless (is_empty word) (text_of (percent_decode word)) text e in
+    let inner = some_if (is_utf8 (percent_decode word)) (percent_decode word) text outer.1 in record {
+      some = not_empty word outer.0;
       decoded = inner.1;
-      text = subst IsUtf8 inner.1 (IsUtf8-from_is_utf8 (percent_decode piece) inner.0);
+      valid = subst IsUtf8 inner.1 (IsUtf8-from_is_utf8 (percent_decode word) inner.0);
     }
 
+-- a word that spells a text is read as that text
+pub text_only : (word text : List ℕ) → SpellsText word text → unescaped word ≡ Some text
+text_only word text h =
+    ap (λ b. cond b None (text_of (percent_decode word))) (empty_no word h.some) ∙ ap text_of h.decoded
+    ∙ ap (λ b. cond b (Some text) None) (is_utf8-from_IsUtf8 text h.valid)
+
+name_found : (piece name : List ℕ) → Lacks 47 piece → name_of piece ≡ Some name → SpellsName piece name
+name_found piece name free e = record { no_slash = free; spelled = text_found piece name e }
+
 name_only : (piece name : List ℕ) → SpellsName piece name → name_of piece ≡ Some name
-name_only piece name h =
-    ap (λ b. cond b None (text_of (percent_decode piece))) (empty_no piece h.some) ∙ ap text_of h.decoded
-    ∙ ap (λ b. cond b (Some name) None) (is_utf8-from_IsUtf8 name h.text)
+name_only piece name h = text_only piece name h.spelled
 
 -- names behind slashes, from the pieces between them
 abbrev slashed : List (List ℕ) → List ℕ
@@ -162,7 +169,7 @@ path_only word (name ∷ names) h =
     let cut = pieces_only word (name ∷ names) h in
     let some : 0 < length cut.pieces = omega (arith, cut.count) in
     let rest : List ℕ = h.0 ++ h.1 in
-    let full : is_empty rest ≡ false = empty_no rest (omega (arith, h.3.some, length-append h.0 h.1)) in
+    let full : is_empty rest ≡ false = empty_no rest (omega (arith, h.3.spelled.some, length-append h.0 h.1)) in
     ap path_of h.2 ∙ ap (λ b. cond b (Some []) (names_of (slice_split (λ x. eqb x 47) rest))) full
     ∙ ap names_of (ap (slice_split (λ x. eqb x 47)) (joined_is cut.pieces rest some (sym h.2 ∙ cut.slashed_is)) ∙ split_joined 47 cut.pieces some cut.free) ∙ cut.named
   where

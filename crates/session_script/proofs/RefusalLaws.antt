@@ -3,186 +3,76 @@ use Rattle.std.proofs.Common.{◌≡◌, ◌⊎◌, inl, inr, ℕ, ◌+◌, ◌<
 use Rattle.std.specs.Prelude.{Option, Result, ◌||◌, not, nat_le, nat_lt}
 use Rattle.std.specs.List.{AllByRecursion, list_any}
 use Rattle.std.specs.Str.{IsUtf8, is_utf8}
-use Rattle.std.proofs.lemmas.Bool.{leb-true, leb-false, ltb-true, ltb-false, or_parts}
+use Rattle.std.proofs.lemmas.Bool.{eqb-true, eq-eqb, leb-true, leb-false, ltb-true, ltb-false, or_parts}
 use Rattle.std.proofs.lemmas.List.Splits.{length-slice_split}
 use Rattle.std.proofs.lemmas.Str.{IsUtf8-from_is_utf8, is_utf8-from_IsUtf8}
 use Rattle.plain_tree.specs.declared.calls.Call.{Call}
-use Rattle.plain_tree.specs.declared.calls.Call.TheVariants.{Mkdir, Create, Truncate, Read, Listing, Stat, Rename, Remove, Sync}
 use Rattle.session_script.specs.Bounds.{longest_script, most_asked, most_calls, most_in_all, most_written}
 use Rattle.session_script.specs.declared.scripts.ScriptErr.{ScriptErr}
 use Rattle.session_script.specs.declared.scripts.ScriptLine.{ScriptLine}
 use Rattle.session_script.specs.declared.scripts.ScriptWhy.{ScriptWhy}
 use Rattle.session_script.specs.declared.scripts.ScriptWhy.TheVariants as reasons
 use Rattle.session_script.specs.declared.words.Verb.{Verb}
-use Rattle.session_script.specs.declared.words.Verb.TheVariants as verbs
-use Rattle.session_script.specs.Words.{is_empty, words_of, verb_of, session_of, path_of, number_of, bytes_of}
-use Rattle.session_script.specs.Grammar.{calls_of, bytes_written, bytes_asked, read_as, call_by, call_with, call_of, with_session, spelled_by, limit_passed, unless_passed, limited, is_skipped, line_of, with_line, and_then, script_from, lines_of, script_of}
-use Rattle.session_script.specs.ScriptText.{IsJoined, SpellsPath, SpellsNumber, SpellsBytes, IsSkippedLine, IsCallLine, SpellLines, IsWithinLimits}
-use Rattle.session_script.specs.ScriptRefusals.{verb_text, HasWords, HasPaths, HasNumbers, HasContent, LacksForm, PassesLimit, LacksCall, IsRefusedLine, IsRefusedText, IsTooLong}
-use Rattle.session_script.proofs.NumberLaws.{number_found, number_only, session_found, session_only}
-use Rattle.session_script.proofs.PathLaws.{IsJoined-split, not_empty, empty_no, path_found, path_only}
-use Rattle.session_script.proofs.BytesLaws.{bytes_only}
-use Rattle.session_script.proofs.CallLaws.{verb_found}
+use Rattle.session_script.specs.Forms.{Form, a_path, reason_of, verb_text, forms_of, call_for}
+use Rattle.session_script.specs.Words.{is_empty, words_of, verb_of, session_of}
+use Rattle.session_script.specs.Grammar.{calls_of, bytes_written, bytes_asked, read_as, read_forms, call_by, call_with, call_of, with_session, spelled_by, limit_passed, unless_passed, limited, is_skipped, line_of, with_line, and_then, script_from, lines_of, script_of}
+use Rattle.session_script.specs.ScriptText.{IsJoined, IsSkippedLine, IsCallLine, SpellLines, IsWithinLimits}
+use Rattle.session_script.specs.ScriptRefusals.{HasWords, FirstWrong, NamesVerb, LacksForm, PassesLimit, LacksCall, IsRefusedLine, IsRefusedText, IsTooLong}
+use Rattle.session_script.proofs.NumberLaws.{session_found, session_only}
+use Rattle.session_script.proofs.PathLaws.{IsJoined-split, not_empty}
+use Rattle.session_script.proofs.FormLaws.{wrong_found, wrong_reason}
+use Rattle.session_script.proofs.CallLaws.{verb_found, verb_only, none_empty}
 use Rattle.session_script.proofs.LineLaws.{spelled_found, line_utf8, line_none, line_skip_only}
 use Rattle.session_script.proofs.Bounds.{line_spelled}
 use Rattle.session_script.proofs.GrammarLaws.{IsWithinLimits-nil, IsWithinLimits-more, skipped}
 
-no_path : (w : List ℕ) → path_of w ≡ None → (path : List (List ℕ)) × SpellsPath w path → ⊥
-no_path w is h = let some : path_of w ≡ Some h.0 = path_only w h.0 h.1 in cc
-
-no_number : (w : List ℕ) → number_of w ≡ None → (n : ℕ) × SpellsNumber w n → ⊥
-no_number w is h = let some : number_of w ≡ Some h.0 = number_only w h.0 h.1 in cc
-
-no_bytes : (w : List ℕ) → bytes_of w ≡ None → (bytes : List ℕ) × SpellsBytes w bytes → ⊥
-no_bytes w is h = let some : bytes_of w ≡ Some h.0 = bytes_only w h.0 h.1 in cc
-
-all_full : (words : List (List ℕ)) → list_any is_empty words ≡ false → AllByRecursion (λ w. 1 ≤ length w) words
+-- words of which none is found empty have a byte or more each
+pub all_full : (words : List (List ℕ)) → list_any is_empty words ≡ false → AllByRecursion (λ w. 1 ≤ length w) words
 all_full [] h = tt
 all_full (w ∷ words) h = let both = or_parts (is_empty w) (list_any is_empty words) h in (not_empty w both.0, all_full words both.1)
 
-none_empty : (words : List (List ℕ)) → AllByRecursion (λ w. 1 ≤ length w) words → list_any is_empty words ≡ false
-none_empty [] h = refl
-none_empty (w ∷ words) h = ap (λ b. b || list_any is_empty words) (empty_no w h.0) ∙ none_empty words h.1
+-- the reasons that stand for a form
+abbrev is_of_form : ScriptWhy → Bool
+is_of_form reasons.Path = true
+is_of_form reasons.Key = true
+is_of_form reasons.Flag = true
+is_of_form reasons.Number = true
+is_of_form reasons.Bytes = true
+is_of_form _ = false
 
--- a word that names a verb names that alone
-pub verb_only : (verb : Verb) → verb_of (verb_text verb) ≡ Some verb
-verb_only verbs.Mkdir = refl
-verb_only verbs.Create = refl
-verb_only verbs.Write = refl
-verb_only verbs.Truncate = refl
-verb_only verbs.Read = refl
-verb_only verbs.List = refl
-verb_only verbs.Stat = refl
-verb_only verbs.Rename = refl
-verb_only verbs.Remove = refl
-verb_only verbs.Sync = refl
+of_form : (form : Form) → is_of_form (reason_of form) ≡ true
+of_form a_path = refl
+of_form _ = refl
+
+-- no word is the first wrong one for a reason that stands for no form
+not_wrong : (forms : List Form) (words : List (List ℕ)) (why : ScriptWhy) → is_of_form why ≡ false → FirstWrong forms words why → ⊥
+not_wrong forms words why other h =
+    let form = wrong_reason forms words why h in
+    let told : is_of_form why ≡ true = ap is_of_form form.1 ∙ of_form form.0 in cc
+
+form_lacks : (words : List (List ℕ)) (why : ScriptWhy) (verb : Verb) (rest : List (List ℕ)) → NamesVerb words verb rest → HasWords verb rest → FirstWrong (forms_of verb) rest why → LacksForm words why
+form_lacks words reasons.Verb verb rest named has wrong = absurd (not_wrong (forms_of verb) rest reasons.Verb refl wrong)
+form_lacks words reasons.Words verb rest named has wrong = absurd (not_wrong (forms_of verb) rest reasons.Words refl wrong)
+form_lacks words _ verb rest named has wrong = (verb, rest, named, has, wrong)
 
 module _ (told : ScriptWhy) where
   wrong_words : (verb : Verb) (rest : List (List ℕ)) → (HasWords verb rest → ⊥) → (let r : Result Call ScriptWhy = Err reasons.Words in r) ≡ Err told → LacksForm (verb_text verb ∷ rest) told
   wrong_words verb rest no_words e =
       let same : reasons.Words ≡ told = cc in subst (LacksForm (verb_text verb ∷ rest)) same (verb, rest, refl, no_words)
 
-  -- a word that has to be a path is none, or what is behind it lacks a form
-  at_path : (verb : Verb) (rest : List (List ℕ)) (p : List ℕ) (next : List (List ℕ) → Result Call ScriptWhy) → HasWords verb rest
-      → (HasPaths verb rest → (path : List (List ℕ)) × SpellsPath p path) → read_as (path_of p) reasons.Path next ≡ Err told
-      → ((path : List (List ℕ)) → SpellsPath p path → next path ≡ Err told → LacksForm (verb_text verb ∷ rest) told) → LacksForm (verb_text verb ∷ rest) told
-  at_path verb rest p next words is_path e later = at (path_of p) refl e
-    where
-      at : (o : Option (List (List ℕ))) → path_of p ≡ o → read_as o reasons.Path next ≡ Err told → LacksForm (verb_text verb ∷ rest) told
-      at None is h =
-          let same : reasons.Path ≡ told = cc in subst (LacksForm (verb_text verb ∷ rest)) same (verb, rest, refl, words, λ paths. no_path p is (is_path paths))
-      at (Some path) is h = later path (path_found p path is) h
-
-  -- the same of a number
-  at_number : (verb : Verb) (rest : List (List ℕ)) (w : List ℕ) (next : ℕ → Result Call ScriptWhy) → HasWords verb rest → HasPaths verb rest
-      → (HasNumbers verb rest → (n : ℕ) × SpellsNumber w n) → read_as (number_of w) reasons.Number next ≡ Err told
-      → ((n : ℕ) → SpellsNumber w n → next n ≡ Err told → LacksForm (verb_text verb ∷ rest) told) → LacksForm (verb_text verb ∷ rest) told
-  at_number verb rest w next words paths is_number e later = at (number_of w) refl e
-    where
-      at : (o : Option ℕ) → number_of w ≡ o → read_as o reasons.Number next ≡ Err told → LacksForm (verb_text verb ∷ rest) told
-      at None is h =
-          let same : reasons.Number ≡ told = cc in
-          subst (LacksForm (verb_text verb ∷ rest)) same (verb, rest, refl, words, paths, λ numbers. no_number w is (is_number numbers))
-      at (Some n) is h = later n (number_found w n is) h
-
-  -- the same of the bytes of a write
-  at_bytes : (verb : Verb) (rest : List (List ℕ)) (w : List ℕ) (next : List ℕ → Result Call ScriptWhy) → HasWords verb rest → HasPaths verb rest → HasNumbers verb rest
-      → (HasContent verb rest → (bytes : List ℕ) × SpellsBytes w bytes) → read_as (bytes_of w) reasons.Bytes next ≡ Err told
-      → ((bytes : List ℕ) → next bytes ≡ Err told → LacksForm (verb_text verb ∷ rest) told) → LacksForm (verb_text verb ∷ rest) told
-  at_bytes verb rest w next words paths numbers is_bytes e later = at (bytes_of w) refl e
-    where
-      at : (o : Option (List ℕ)) → bytes_of w ≡ o → read_as o reasons.Bytes next ≡ Err told → LacksForm (verb_text verb ∷ rest) told
-      at None is h =
-          let same : reasons.Bytes ≡ told = cc in
-          subst (LacksForm (verb_text verb ∷ rest)) same (verb, rest, refl, words, paths, numbers, λ content. no_bytes w is (is_bytes content))
-      at (Some bytes) is h = later bytes h
-
-  never : {X : Type 0} (call : Call) → Ok call ≡ Err told → X
+  never : (call : Call) → Ok call ≡ Err told → ⊥
   never call e = cc
 
-  one_lacks : (verb : Verb) (make : List (List ℕ) → Call) (p : List ℕ) → HasWords verb (p ∷ []) → (HasPaths verb (p ∷ []) → (path : List (List ℕ)) × SpellsPath p path)
-      → read_as (path_of p) reasons.Path (λ path. Ok (make path)) ≡ Err told → LacksForm (verb_text verb ∷ p ∷ []) told
-  one_lacks verb make p words is_path e = at_path verb (p ∷ []) p _ words is_path e (λ path is h. never (make path) h)
-
-  mkdir_lacks : (rest : List (List ℕ)) → AllByRecursion (λ w. 1 ≤ length w) rest → call_by verbs.Mkdir rest ≡ Err told → LacksForm (verb_text verbs.Mkdir ∷ rest) told
-  mkdir_lacks [] full e = wrong_words verbs.Mkdir [] (λ h. omega (arith, h.count)) e
-  mkdir_lacks (p ∷ []) full e = one_lacks verbs.Mkdir Mkdir p (record { count = refl; full = full }) (λ h. h.0) e
-  mkdir_lacks (p ∷ q ∷ rest) full e = wrong_words verbs.Mkdir (p ∷ q ∷ rest) (λ h. omega (arith, h.count)) e
-
-  write_lacks : (rest : List (List ℕ)) → AllByRecursion (λ w. 1 ≤ length w) rest → call_by verbs.Write rest ≡ Err told → LacksForm (verb_text verbs.Write ∷ rest) told
-  write_lacks [] full e = wrong_words verbs.Write [] (λ h. omega (arith, h.count)) e
-  write_lacks (p ∷ []) full e = wrong_words verbs.Write (p ∷ []) (λ h. omega (arith, h.count)) e
-  write_lacks (p ∷ n ∷ []) full e = wrong_words verbs.Write (p ∷ n ∷ []) (λ h. omega (arith, h.count)) e
-  write_lacks (p ∷ n ∷ b ∷ []) full e =
-      let words : HasWords verbs.Write (p ∷ n ∷ b ∷ []) = record { count = refl; full = full } in
-      at_path verbs.Write (p ∷ n ∷ b ∷ []) p _ words (λ h. h.0) e (λ path path_is f.
-      at_number verbs.Write (p ∷ n ∷ b ∷ []) n _ words ((path, path_is), tt) (λ h. h.0) f (λ offset offset_is g.
-      at_bytes verbs.Write (p ∷ n ∷ b ∷ []) b _ words ((path, path_is), tt) ((offset, offset_is), tt) (λ h. h.0) g (λ bytes h. never _ h)))
-  write_lacks (p ∷ n ∷ b ∷ r ∷ rest) full e = wrong_words verbs.Write (p ∷ n ∷ b ∷ r ∷ rest) (λ h. omega (arith, h.count)) e
-
-  create_lacks : (rest : List (List ℕ)) → AllByRecursion (λ w. 1 ≤ length w) rest → call_by verbs.Create rest ≡ Err told → LacksForm (verb_text verbs.Create ∷ rest) told
-  create_lacks [] full e = wrong_words verbs.Create [] (λ h. omega (arith, h.count)) e
-  create_lacks (p ∷ []) full e = one_lacks verbs.Create Create p (record { count = refl; full = full }) (λ h. h.0) e
-  create_lacks (p ∷ q ∷ rest) full e = wrong_words verbs.Create (p ∷ q ∷ rest) (λ h. omega (arith, h.count)) e
-
-  list_lacks : (rest : List (List ℕ)) → AllByRecursion (λ w. 1 ≤ length w) rest → call_by verbs.List rest ≡ Err told → LacksForm (verb_text verbs.List ∷ rest) told
-  list_lacks [] full e = wrong_words verbs.List [] (λ h. omega (arith, h.count)) e
-  list_lacks (p ∷ []) full e = one_lacks verbs.List Listing p (record { count = refl; full = full }) (λ h. h.0) e
-  list_lacks (p ∷ q ∷ rest) full e = wrong_words verbs.List (p ∷ q ∷ rest) (λ h. omega (arith, h.count)) e
-
-  stat_lacks : (rest : List (List ℕ)) → AllByRecursion (λ w. 1 ≤ length w) rest → call_by verbs.Stat rest ≡ Err told → LacksForm (verb_text verbs.Stat ∷ rest) told
-  stat_lacks [] full e = wrong_words verbs.Stat [] (λ h. omega (arith, h.count)) e
-  stat_lacks (p ∷ []) full e = one_lacks verbs.Stat Stat p (record { count = refl; full = full }) (λ h. h.0) e
-  stat_lacks (p ∷ q ∷ rest) full e = wrong_words verbs.Stat (p ∷ q ∷ rest) (λ h. omega (arith, h.count)) e
-
-  remove_lacks : (rest : List (List ℕ)) → AllByRecursion (λ w. 1 ≤ length w) rest → call_by verbs.Remove rest ≡ Err told → LacksForm (verb_text verbs.Remove ∷ rest) told
-  remove_lacks [] full e = wrong_words verbs.Remove [] (λ h. omega (arith, h.count)) e
-  remove_lacks (p ∷ []) full e = one_lacks verbs.Remove Remove p (record { count = refl; full = full }) (λ h. h.0) e
-  remove_lacks (p ∷ q ∷ rest) full e = wrong_words verbs.Remove (p ∷ q ∷ rest) (λ h. omega (arith, h.count)) e
-
-  sync_lacks : (rest : List (List ℕ)) → AllByRecursion (λ w. 1 ≤ length w) rest → call_by verbs.Sync rest ≡ Err told → LacksForm (verb_text verbs.Sync ∷ rest) told
-  sync_lacks [] full e = never Sync e
-  sync_lacks (p ∷ rest) full e = wrong_words verbs.Sync (p ∷ rest) (λ h. omega (arith, h.count)) e
-
-  rename_lacks : (rest : List (List ℕ)) → AllByRecursion (λ w. 1 ≤ length w) rest → call_by verbs.Rename rest ≡ Err told → LacksForm (verb_text verbs.Rename ∷ rest) told
-  rename_lacks [] full e = wrong_words verbs.Rename [] (λ h. omega (arith, h.count)) e
-  rename_lacks (p ∷ []) full e = wrong_words verbs.Rename (p ∷ []) (λ h. omega (arith, h.count)) e
-  rename_lacks (p ∷ q ∷ []) full e =
-      let words : HasWords verbs.Rename (p ∷ q ∷ []) = record { count = refl; full = full } in
-      at_path verbs.Rename (p ∷ q ∷ []) p _ words (λ h. h.0) e (λ from from_is f. at_path verbs.Rename (p ∷ q ∷ []) q _ words (λ h. h.1.0) f (λ to to_is h. never (Rename from to) h))
-  rename_lacks (p ∷ q ∷ r ∷ rest) full e = wrong_words verbs.Rename (p ∷ q ∷ r ∷ rest) (λ h. omega (arith, h.count)) e
-
-  truncate_lacks : (rest : List (List ℕ)) → AllByRecursion (λ w. 1 ≤ length w) rest → call_by verbs.Truncate rest ≡ Err told → LacksForm (verb_text verbs.Truncate ∷ rest) told
-  truncate_lacks [] full e = wrong_words verbs.Truncate [] (λ h. omega (arith, h.count)) e
-  truncate_lacks (p ∷ []) full e = wrong_words verbs.Truncate (p ∷ []) (λ h. omega (arith, h.count)) e
-  truncate_lacks (p ∷ n ∷ []) full e =
-      let words : HasWords verbs.Truncate (p ∷ n ∷ []) = record { count = refl; full = full } in
-      at_path verbs.Truncate (p ∷ n ∷ []) p _ words (λ h. h.0) e (λ path path_is f.
-      at_number verbs.Truncate (p ∷ n ∷ []) n _ words ((path, path_is), tt) (λ h. h.0) f (λ size size_is h. never (Truncate path size) h))
-  truncate_lacks (p ∷ n ∷ r ∷ rest) full e = wrong_words verbs.Truncate (p ∷ n ∷ r ∷ rest) (λ h. omega (arith, h.count)) e
-
-  read_lacks : (rest : List (List ℕ)) → AllByRecursion (λ w. 1 ≤ length w) rest → call_by verbs.Read rest ≡ Err told → LacksForm (verb_text verbs.Read ∷ rest) told
-  read_lacks [] full e = wrong_words verbs.Read [] (λ h. omega (arith, h.count)) e
-  read_lacks (p ∷ []) full e = wrong_words verbs.Read (p ∷ []) (λ h. omega (arith, h.count)) e
-  read_lacks (p ∷ n ∷ []) full e = wrong_words verbs.Read (p ∷ n ∷ []) (λ h. omega (arith, h.count)) e
-  read_lacks (p ∷ n ∷ m ∷ []) full e =
-      let words : HasWords verbs.Read (p ∷ n ∷ m ∷ []) = record { count = refl; full = full } in
-      at_path verbs.Read (p ∷ n ∷ m ∷ []) p _ words (λ h. h.0) e (λ path path_is f.
-      at_number verbs.Read (p ∷ n ∷ m ∷ []) n _ words ((path, path_is), tt) (λ h. h.0) f (λ offset offset_is g.
-      at_number verbs.Read (p ∷ n ∷ m ∷ []) m _ words ((path, path_is), tt) (λ h. h.1.0) g (λ count count_is h. never (Read path offset count) h)))
-  read_lacks (p ∷ n ∷ m ∷ r ∷ rest) full e = wrong_words verbs.Read (p ∷ n ∷ m ∷ r ∷ rest) (λ h. omega (arith, h.count)) e
-
   by_lacks : (verb : Verb) (rest : List (List ℕ)) → AllByRecursion (λ w. 1 ≤ length w) rest → call_by verb rest ≡ Err told → LacksForm (verb_text verb ∷ rest) told
-  by_lacks verbs.Mkdir rest full e = mkdir_lacks rest full e
-  by_lacks verbs.Create rest full e = create_lacks rest full e
-  by_lacks verbs.Write rest full e = write_lacks rest full e
-  by_lacks verbs.Truncate rest full e = truncate_lacks rest full e
-  by_lacks verbs.Read rest full e = read_lacks rest full e
-  by_lacks verbs.List rest full e = list_lacks rest full e
-  by_lacks verbs.Stat rest full e = stat_lacks rest full e
-  by_lacks verbs.Rename rest full e = rename_lacks rest full e
-  by_lacks verbs.Remove rest full e = remove_lacks rest full e
-  by_lacks verbs.Sync rest full e = sync_lacks rest full e
+  by_lacks verb rest full e = at (eqb (length rest) (length (forms_of verb))) refl e
+    where
+      at : (b : Bool) → eqb (length rest) (length (forms_of verb)) ≡ b → cond b (read_forms (forms_of verb) rest (λ values. Ok (call_for verb values))) (Err reasons.Words) ≡ Err told
+          → LacksForm (verb_text verb ∷ rest) told
+      at true is h =
+          let count : length rest ≡ length (forms_of verb) = eqb-true _ _ is in
+          form_lacks (verb_text verb ∷ rest) told verb rest refl (record { count = count; full = full })
+          (wrong_found (forms_of verb) rest (λ values. Ok (call_for verb values)) told count (λ values. never (call_for verb values)) h)
+      at false is h = wrong_words verb rest (λ words. let yes : eqb (length rest) (length (forms_of verb)) ≡ true = eq-eqb _ _ words.count in cc) h
 
   with_lacks : (verb : Verb) (rest : List (List ℕ)) → call_with verb rest ≡ Err told → LacksForm (verb_text verb ∷ rest) told
   with_lacks verb rest e = at (list_any is_empty rest) refl e
@@ -242,8 +132,8 @@ limit_found before line told e = calls_at (nat_le most_calls (length (calls_of b
 
 module _ (before : List ScriptLine) (line : List ℕ) where
   by_form : (told : ScriptWhy) → IsUtf8 line → (IsSkippedLine line → ⊥) → LacksCall line told → IsRefusedLine before line told
-  by_form reasons.Utf8 valid some h = absurd h.5
-  by_form reasons.Who valid some h = absurd h.5
+  by_form reasons.Utf8 valid some h = absurd (not_wrong _ _ reasons.Utf8 refl h.5.4)
+  by_form reasons.Who valid some h = absurd (not_wrong _ _ reasons.Who refl h.5.4)
   by_form _ valid some h = (valid, some, inl h)
 
   by_limit : (told : ScriptWhy) → IsUtf8 line → (IsSkippedLine line → ⊥) → (spelled : ScriptLine) → IsCallLine line spelled → PassesLimit before spelled told → IsRefusedLine before line told

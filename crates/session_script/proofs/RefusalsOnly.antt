@@ -1,12 +1,11 @@
 -- Refused scripts, the way back: what lacks a form or passes a limit is refused for that.
-use Rattle.std.proofs.Common.{◌≡◌, ◌⊎◌, ⊎_elim, ℕ, ◌+◌, ◌<◌, ◌≤◌, Bool, true, false, cond, List, [], ◌∷◌, ◌++◌, length, sym, ap, ◌∙◌, refl, subst, arith, Some, None, Ok, Err, length-append}
-use Rattle.std.specs.Prelude.{Option, Result, not, nat_lt}
-use Rattle.std.specs.List.{AllByRecursion, join_with_byte}
+use Rattle.std.proofs.Common.{◌≡◌, ◌⊎◌, ⊎_elim, ℕ, ◌+◌, ◌<◌, ◌≤◌, Bool, true, false, cond, eqb, List, [], ◌∷◌, ◌++◌, length, sym, ap, ◌∙◌, refl, arith, Some, None, Ok, Err, length-append}
+use Rattle.std.specs.Prelude.{Option, Result, ◌&&◌, not, nat_le, nat_lt}
+use Rattle.std.specs.List.{AllByRecursion, list_all, list_any, join_with_byte}
+use Rattle.std.proofs.lemmas.Bool.{and_parts, eqb-true, leb-true}
 use Rattle.std.specs.Str.{IsUtf8, is_utf8}
 use Rattle.std.proofs.lemmas.Bool.Decides.{nat_tests}
 use Rattle.std.proofs.lemmas.Str.{IsUtf8-from_is_utf8, is_utf8-from_IsUtf8}
-use Rattle.plain_tree.specs.declared.calls.Call.{Call}
-use Rattle.plain_tree.specs.declared.calls.Call.TheVariants.{Mkdir, Create, Write, Truncate, Read, Listing, Stat, Rename, Remove, Sync}
 use Rattle.session_script.specs.Bounds.{longest_script}
 use Rattle.session_script.specs.declared.scripts.ScriptErr.{ScriptErr}
 use Rattle.session_script.specs.declared.scripts.ScriptLine.{ScriptLine}
@@ -14,98 +13,43 @@ use Rattle.session_script.specs.declared.scripts.ScriptWhy.{ScriptWhy}
 use Rattle.session_script.specs.declared.scripts.ScriptWhy.TheVariants as reasons
 use Rattle.session_script.specs.declared.words.Verb.{Verb}
 use Rattle.session_script.specs.declared.words.Verb.TheVariants as verbs
-use Rattle.session_script.specs.Words.{words_of, verb_of, session_of}
-use Rattle.session_script.specs.Grammar.{read_as, call_of, with_session, spelled_by, limit_passed, unless_passed, limited, is_skipped, line_of, with_line, and_then, script_from, lines_of, script_of}
-use Rattle.session_script.specs.ScriptText.{Lacks, IsJoined, SpellsSession, SpellsCall, IsSkippedLine, IsCallLine, SpellLines, IsWithinLimits}
-use Rattle.session_script.specs.ScriptRefusals.{verb_text, HasWords, HasPaths, HasNumbers, HasContent, LacksForm, PassesLimit, LacksCall, LacksSession, IsRefusedLine, IsRefusedText, IsTooLong, IsRefusal}
+use Rattle.session_script.specs.Forms.{Form, rank, forms_of, call_for}
+use Rattle.session_script.specs.Words.{is_empty, words_of, verb_of, session_of}
+use Rattle.session_script.specs.Grammar.{read_as, read_forms, call_with, call_of, with_session, spelled_by, limit_passed, unless_passed, limited, is_skipped, line_of, with_line, and_then, script_from, lines_of, script_of}
+use Rattle.session_script.specs.ScriptText.{Lacks, IsJoined, SpellsSession, IsSkippedLine, IsCallLine, SpellLines, IsWithinLimits}
+use Rattle.session_script.specs.ScriptRefusals.{HasWords, NamesVerb, LacksForm, PassesLimit, LacksCall, LacksSession, IsRefusedLine, IsRefusedText, IsTooLong, IsRefusal, StandInOrder}
 use Rattle.session_script.proofs.NumberLaws.{session_found, session_only}
 use Rattle.session_script.proofs.PathLaws.{split_joined}
-use Rattle.session_script.proofs.BytesLaws.{bytes_some}
-use Rattle.session_script.proofs.CallLaws.{call_found, path_some}
+use Rattle.session_script.proofs.FormLaws.{wrong_only}
+use Rattle.session_script.proofs.CallLaws.{verb_found, by_verb, by_forms}
 use Rattle.session_script.proofs.LineLaws.{spelled_only, skip_found}
 use Rattle.session_script.proofs.Bounds.{IsWithin, IsWithin-passed}
 use Rattle.session_script.proofs.GrammarLaws.{short_text, script_only}
-use Rattle.session_script.proofs.RefusalLaws.{verb_only, call_lacks, limit_found}
+use Rattle.session_script.proofs.RefusalLaws.{all_full, limit_found}
 
--- words name one verb, with one rest behind it
-behind : (P : Verb → List (List ℕ) → Type 0) (words : List (List ℕ)) (v w : Verb) (r s : List (List ℕ)) → words ≡ verb_text v ∷ r → words ≡ verb_text w ∷ s → P v r → P w s
-behind P words v w r s h k p =
-    let both : verb_text v ∷ r ≡ verb_text w ∷ s = sym h ∙ k in
-    let text : verb_text v ≡ verb_text w = cc in
-    let rest : r ≡ s = cc in
-    let named : Some v ≡ Some w = sym (verb_only v) ∙ ap verb_of text ∙ verb_only w in
-    let verb : v ≡ w = cc in subst (P w) rest (subst (λ x. P x r) verb p)
+no_verb : (words : List (List ℕ)) → ((verb : Verb) (rest : List (List ℕ)) → NamesVerb words verb rest → ⊥) → call_of words ≡ Err reasons.Verb
+no_verb [] never = refl
+no_verb (word ∷ words) never = at (verb_of word) refl
+  where
+    at : (o : Option Verb) → verb_of word ≡ o → read_as o reasons.Verb (λ verb. call_with verb words) ≡ Err reasons.Verb
+    at None is = refl
+    at (Some verb) is = absurd (never verb words (ap (λ w. w ∷ words) (verb_found word verb is)))
 
--- words lack one form first
-same_form : (words : List (List ℕ)) (a b : ScriptWhy) → LacksForm words a → LacksForm words b → a ≡ b
-same_form words reasons.Verb reasons.Verb h k = refl
-same_form words reasons.Verb reasons.Words h k = absurd (h k.0 k.1 k.2)
-same_form words reasons.Verb reasons.Path h k = absurd (h k.0 k.1 k.2)
-same_form words reasons.Verb reasons.Number h k = absurd (h k.0 k.1 k.2)
-same_form words reasons.Verb reasons.Bytes h k = absurd (h k.0 k.1 k.2)
-same_form words reasons.Verb _ h k = absurd k
-same_form words reasons.Words reasons.Verb h k = absurd (k h.0 h.1 h.2)
-same_form words reasons.Words reasons.Words h k = refl
-same_form words reasons.Words reasons.Path h k = absurd (h.3 (behind HasWords words k.0 h.0 k.1 h.1 k.2 h.2 k.3))
-same_form words reasons.Words reasons.Number h k = absurd (h.3 (behind HasWords words k.0 h.0 k.1 h.1 k.2 h.2 k.3))
-same_form words reasons.Words reasons.Bytes h k = absurd (h.3 (behind HasWords words k.0 h.0 k.1 h.1 k.2 h.2 k.3))
-same_form words reasons.Words _ h k = absurd k
-same_form words reasons.Path reasons.Verb h k = absurd (k h.0 h.1 h.2)
-same_form words reasons.Path reasons.Words h k = absurd (k.3 (behind HasWords words h.0 k.0 h.1 k.1 h.2 k.2 h.3))
-same_form words reasons.Path reasons.Path h k = refl
-same_form words reasons.Path reasons.Number h k = absurd (h.4 (behind HasPaths words k.0 h.0 k.1 h.1 k.2 h.2 k.4))
-same_form words reasons.Path reasons.Bytes h k = absurd (h.4 (behind HasPaths words k.0 h.0 k.1 h.1 k.2 h.2 k.4))
-same_form words reasons.Path _ h k = absurd k
-same_form words reasons.Number reasons.Verb h k = absurd (k h.0 h.1 h.2)
-same_form words reasons.Number reasons.Words h k = absurd (k.3 (behind HasWords words h.0 k.0 h.1 k.1 h.2 k.2 h.3))
-same_form words reasons.Number reasons.Path h k = absurd (k.4 (behind HasPaths words h.0 k.0 h.1 k.1 h.2 k.2 h.4))
-same_form words reasons.Number reasons.Number h k = refl
-same_form words reasons.Number reasons.Bytes h k = absurd (h.5 (behind HasNumbers words k.0 h.0 k.1 h.1 k.2 h.2 k.5))
-same_form words reasons.Number _ h k = absurd k
-same_form words reasons.Bytes reasons.Verb h k = absurd (k h.0 h.1 h.2)
-same_form words reasons.Bytes reasons.Words h k = absurd (k.3 (behind HasWords words h.0 k.0 h.1 k.1 h.2 k.2 h.3))
-same_form words reasons.Bytes reasons.Path h k = absurd (k.4 (behind HasPaths words h.0 k.0 h.1 k.1 h.2 k.2 h.4))
-same_form words reasons.Bytes reasons.Number h k = absurd (k.5 (behind HasNumbers words h.0 k.0 h.1 k.1 h.2 k.2 h.5))
-same_form words reasons.Bytes reasons.Bytes h k = refl
-same_form words reasons.Bytes _ h k = absurd k
-same_form words _ b h k = absurd h
-
--- words that lack no form
-abbrev HasForms : List (List ℕ) → Type 0
-HasForms words =
-    (verb : Verb) × (rest : List (List ℕ)) × (words ≡ verb_text verb ∷ rest) × HasWords verb rest × HasPaths verb rest × HasNumbers verb rest × HasContent verb rest
-
-has_forms : (words : List (List ℕ)) (call : Call) → SpellsCall words call → HasForms words
-has_forms words (Mkdir path) h = (verbs.Mkdir, h.0 ∷ [], h.1, record { count = refl; full = (path_some h.0 path h.2, tt) }, ((path, h.2), tt), tt, tt)
-has_forms words (Create path) h = (verbs.Create, h.0 ∷ [], h.1, record { count = refl; full = (path_some h.0 path h.2, tt) }, ((path, h.2), tt), tt, tt)
-has_forms words (Listing path) h = (verbs.List, h.0 ∷ [], h.1, record { count = refl; full = (path_some h.0 path h.2, tt) }, ((path, h.2), tt), tt, tt)
-has_forms words (Stat path) h = (verbs.Stat, h.0 ∷ [], h.1, record { count = refl; full = (path_some h.0 path h.2, tt) }, ((path, h.2), tt), tt, tt)
-has_forms words (Remove path) h = (verbs.Remove, h.0 ∷ [], h.1, record { count = refl; full = (path_some h.0 path h.2, tt) }, ((path, h.2), tt), tt, tt)
-has_forms words Sync h = (verbs.Sync, [], h, record { count = refl; full = tt }, tt, tt, tt)
-has_forms words (Rename from to) h =
-    (verbs.Rename, h.0 ∷ h.1 ∷ [], h.2, record { count = refl; full = (path_some h.0 from h.3, (path_some h.1 to h.4, tt)) }, ((from, h.3), ((to, h.4), tt)), tt, tt)
-has_forms words (Truncate path size) h =
-    (verbs.Truncate, h.0 ∷ h.1 ∷ [], h.2, record { count = refl; full = (path_some h.0 path h.3, (h.4.some, tt)) }, ((path, h.3), tt), ((size, h.4), tt), tt)
-has_forms words (Read path offset count) h =
-    (verbs.Read, h.0 ∷ h.1 ∷ h.2 ∷ [], h.3, record { count = refl; full = (path_some h.0 path h.4, (h.5.some, (h.6.some, tt))) }, ((path, h.4), tt), ((offset, h.5), ((count, h.6), tt)), tt)
-has_forms words (Write path offset bytes) h =
-    (verbs.Write, h.0 ∷ h.1 ∷ h.2 ∷ [], h.3, record { count = refl; full = (path_some h.0 path h.4, (h.5.some, (bytes_some h.2 bytes h.6, tt))) }, ((path, h.4), tt), ((offset, h.5), tt), ((bytes, h.6), tt))
-
-lacks_none : (words : List (List ℕ)) → HasForms words → (why : ScriptWhy) → LacksForm words why → ⊥
-lacks_none words f reasons.Verb k = k f.0 f.1 f.2
-lacks_none words f reasons.Words k = k.3 (behind HasWords words f.0 k.0 f.1 k.1 f.2 k.2 f.3)
-lacks_none words f reasons.Path k = k.4 (behind HasPaths words f.0 k.0 f.1 k.1 f.2 k.2 f.4)
-lacks_none words f reasons.Number k = k.5 (behind HasNumbers words f.0 k.0 f.1 k.1 f.2 k.2 f.5)
-lacks_none words f reasons.Bytes k = k.6 (behind HasContent words f.0 k.0 f.1 k.1 f.2 k.2 f.6)
-lacks_none words f _ k = k
+no_words : (verb : Verb) (rest : List (List ℕ)) → (HasWords verb rest → ⊥) → call_with verb rest ≡ Err reasons.Words
+no_words verb rest never = at (list_any is_empty rest) refl (eqb (length rest) (length (forms_of verb))) refl
+  where
+    at : (b : Bool) → list_any is_empty rest ≡ b → (c : Bool) → eqb (length rest) (length (forms_of verb)) ≡ c
+        → cond b (Err reasons.Words) (cond c (read_forms (forms_of verb) rest (λ values. Ok (call_for verb values))) (Err reasons.Words)) ≡ Err reasons.Words
+    at true is c also = refl
+    at false is false also = refl
+    at false is true also = absurd (never (record { count = eqb-true _ _ also; full = all_full rest is }))
 
 -- words that lack a form are refused for it
 call_refused : (words : List (List ℕ)) (why : ScriptWhy) → LacksForm words why → call_of words ≡ Err why
-call_refused words why h = at (call_of words) refl
-  where
-    at : (r : Result Call ScriptWhy) → call_of words ≡ r → call_of words ≡ Err why
-    at (Ok call) is = absurd (lacks_none words (has_forms words call (call_found words call is)) why h)
-    at (Err told) is = is ∙ ap Err (same_form words told why (call_lacks told words is) h)
+call_refused words reasons.Verb h = no_verb words h
+call_refused words reasons.Words h = by_verb words h.0 h.1 h.2 ∙ no_words h.0 h.1 h.3
+call_refused words why h =
+    by_verb words h.0 h.1 h.2 ∙ by_forms h.0 h.1 h.3 ∙ wrong_only (forms_of h.0) h.1 (λ values. Ok (call_for h.0 values)) why h.4
 
 same_limit : (before : List ScriptLine) (line : ScriptLine) (a b : ScriptWhy) → PassesLimit before line a → PassesLimit before line b → a ≡ b
 same_limit before line reasons.Calls reasons.Calls h k = refl
@@ -255,3 +199,27 @@ long_refused text e h =
 -- a text that is too long, or has a first refused line, is refused so
 pub refusal_only : (text : List ℕ) (e : ScriptErr) → IsRefusal text e → script_of text ≡ Err e
 refusal_only text e h = ⊎_elim (λ (long : IsTooLong text e). long_refused text e long) (λ (refused : IsRefusedText text e). text_refused text e refused) h
+
+rises : List Form → Bool
+rises [] = true
+rises (form ∷ forms) = list_all (λ later. nat_le (rank form) (rank later)) forms && rises forms
+
+all_later : (form : Form) (forms : List Form) → list_all (λ later. nat_le (rank form) (rank later)) forms ≡ true → AllByRecursion (λ later. rank form ≤ rank later) forms
+all_later form [] h = tt
+all_later form (later ∷ forms) h =
+    let both = and_parts (nat_le (rank form) (rank later)) (list_all (λ l. nat_le (rank form) (rank l)) forms) h in (leb-true _ _ both.0, all_later form forms both.1)
+
+in_order : (forms : List Form) → rises forms ≡ true → StandInOrder forms
+unfolding rises
+in_order [] h = tt
+in_order (form ∷ forms) h =
+    let both = and_parts (list_all (λ later. nat_le (rank form) (rank later)) forms) (rises forms) h in (all_later form forms both.0, in_order forms both.1)
+
+all_rise : (verb : Verb) → rises (forms_of verb) ≡ true
+unfolding rises
+all_rise verbs.Mkdir = refl
+all_rise _ = refl
+
+-- the forms of a verb stand in the order of their reasons
+pub forms_ordered : (verb : Verb) → StandInOrder (forms_of verb)
+forms_ordered verb = in_order (forms_of verb) (all_rise verb)

@@ -9,7 +9,7 @@ most_sessions = 16
 abbrev pub most_calls : ℕ
 most_calls = 1024
 
--- a write has at most so many bytes
+-- a write, and the value that a key is given, has at most so many bytes
 abbrev pub most_written : ℕ
 most_written = 65536
 
@@ -17,7 +17,7 @@ most_written = 65536
 abbrev pub most_asked : ℕ
 most_asked = 1048576
 
--- all writes have at most so many bytes, and all reads ask for at most so many
+-- all writes and values of keys have at most so many bytes, and all reads ask for at most so many
 abbrev pub most_in_all : ℕ
 most_in_all = 67108864
 

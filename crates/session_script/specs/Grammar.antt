@@ -4,19 +4,18 @@ use Rattle.std.specs.Prelude.{filter, map, length, sum_by, slice_index, Option, 
 use Rattle.std.specs.List.{list_any, slice_split}
 use Rattle.std.specs.Str.{is_utf8}
 use Rattle.plain_tree.specs.declared.calls.Call.{Call}
-use Rattle.plain_tree.specs.declared.calls.Call.TheVariants.{Mkdir, Create, Write, Truncate, Read, Listing, Stat}
-use Rattle.plain_tree.specs.declared.calls.Call.TheVariants.{Rename, Remove, Sync}
+use Rattle.plain_tree.specs.declared.calls.Call.TheVariants.{Write, Read, Setx}
 use Rattle.plain_tree.specs.History.{Calls}
 use Rattle.session_script.specs.Bounds.{longest_script, most_asked, most_calls, most_in_all, most_written}
 use Rattle.session_script.specs.declared.words.Verb.{Verb}
-use Rattle.session_script.specs.declared.words.Verb.TheVariants as verbs
 use Rattle.session_script.specs.declared.scripts.ScriptWhy.{ScriptWhy}
 use Rattle.session_script.specs.declared.scripts.ScriptWhy.TheVariants as reasons
 use Rattle.session_script.specs.declared.scripts.ScriptErr.{ScriptErr}
 use Rattle.session_script.specs.declared.scripts.ScriptFault.{ScriptFault}
 use Rattle.session_script.specs.declared.scripts.ScriptFault.TheVariants as faults
 use Rattle.session_script.specs.declared.scripts.ScriptLine.{ScriptLine}
-use Rattle.session_script.specs.Words.{words_of, is_empty, number_of, session_of, verb_of, path_of, bytes_of}
+use Rattle.session_script.specs.Forms.{Form, Values, reason_of, forms_of, call_for}
+use Rattle.session_script.specs.Words.{words_of, is_empty, session_of, verb_of, value_of}
 
 -- the calls of each session, in order
 abbrev pub calls_of : List ScriptLine → Calls
@@ -27,26 +26,19 @@ abbrev pub read_as : {A B : Type 0} → Option A → ScriptWhy → (A → Result
 read_as None reason next = Err reason
 read_as (Some value) reason next = next value
 
--- the call that the words behind a verb spell
+-- what the words spell, each by its form, goes on; or the reason of the first that isn't of its form is told
+abbrev pub read_forms : (forms : List Form) → List (List ℕ) → (Values forms → Result Call ScriptWhy)
+    → Result Call ScriptWhy
+read_forms [] [] next = next tt
+read_forms (form ∷ forms) (word ∷ words) next =
+    read_as (value_of form word) (reason_of form) (λ value. read_forms forms words (λ values. next (value, values)))
+read_forms _ _ next = Err reasons.Words
+
+-- the call that the words behind a verb spell, which are as many as its forms
 abbrev pub call_by : Verb → List (List ℕ) → Result Call ScriptWhy
-call_by verbs.Mkdir (p ∷ []) = read_as (path_of p) reasons.Path (λ path. Ok (Mkdir path))
-call_by verbs.Create (p ∷ []) = read_as (path_of p) reasons.Path (λ path. Ok (Create path))
-call_by verbs.Write (p ∷ n ∷ b ∷ []) =
-    read_as (path_of p) reasons.Path (λ path. read_as (number_of n) reasons.Number (λ offset.
-    read_as (bytes_of b) reasons.Bytes (λ bytes. Ok (Write path offset bytes))))
-call_by verbs.Truncate (p ∷ n ∷ []) =
-    read_as (path_of p) reasons.Path (λ path. read_as (number_of n) reasons.Number (λ length.
-    Ok (Truncate path length)))
-call_by verbs.Read (p ∷ n ∷ m ∷ []) =
-    read_as (path_of p) reasons.Path (λ path. read_as (number_of n) reasons.Number (λ offset.
-    read_as (number_of m) reasons.Number (λ count. Ok (Read path offset count))))
-call_by verbs.List (p ∷ []) = read_as (path_of p) reasons.Path (λ path. Ok (Listing path))
-call_by verbs.Stat (p ∷ []) = read_as (path_of p) reasons.Path (λ path. Ok (Stat path))
-call_by verbs.Rename (p ∷ q ∷ []) =
-    read_as (path_of p) reasons.Path (λ from. read_as (path_of q) reasons.Path (λ to. Ok (Rename from to)))
-call_by verbs.Remove (p ∷ []) = read_as (path_of p) reasons.Path (λ path. Ok (Remove path))
-call_by verbs.Sync [] = Ok Sync
-call_by _ _ = Err reasons.Words
+call_by verb words =
+    if length words == length (forms_of verb)
+    then read_forms (forms_of verb) words (λ values. Ok (call_for verb values)) else Err reasons.Words
 
 -- the same, where none of them is empty
 abbrev pub call_with : Verb → List (List ℕ) → Result Call ScriptWhy
@@ -67,9 +59,10 @@ abbrev pub spelled_by : List (List ℕ) → Result ScriptLine ScriptWhy
 spelled_by [] = Err reasons.Who
 spelled_by (word ∷ words) = read_as (session_of word) reasons.Who (λ who. with_session who (call_of words))
 
--- how many bytes a call writes, and how many it asks to read
+-- how many bytes a call writes to a file or gives to a key, and how many it asks to read
 abbrev pub bytes_written : Call → ℕ
 bytes_written (Write path offset bytes) = length bytes
+bytes_written (Setx path key bytes) = length bytes
 bytes_written _ = 0
 
 abbrev pub bytes_asked : Call → ℕ

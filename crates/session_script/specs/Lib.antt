@@ -1,7 +1,9 @@
 pub mod Bounds
 pub mod Escapes
+pub mod Forms
 pub mod Grammar
 pub mod Limits
+pub mod LogLines
 pub mod LogText
 pub mod Made
 pub mod Readings

@@ -61,11 +61,14 @@ reply_text (replies.Full need limit) = codes "full " ++ decimal need ++ codes " 
 reply_text (replies.Fault counts) = codes "fault " ++ decimal counts.before ++ codes " " ++ decimal counts.after
 reply_text replies.NoMemory = codes "nomemory"
 
+-- `PLACE WHO.NTH` and a space
+abbrev pub place_text : ℕ → Placed → List ℕ
+place_text place placed =
+    decimal place ++ codes " " ++ decimal placed.who ++ codes "." ++ decimal placed.nth ++ codes " "
+
 -- `PLACE WHO.NTH REPLY`
 abbrev pub line_text : ℕ → Placed → Reply → List ℕ
-line_text place placed reply =
-    decimal place ++ codes " " ++ decimal placed.who ++ codes "." ++ decimal placed.nth ++ codes " "
-    ++ reply_text reply ++ codes "\n"
+line_text place placed reply = place_text place placed ++ reply_text reply ++ codes "\n"
 
 -- a line for each placement and its reply, in order
 abbrev pub log_text : Log → List ℕ

@@ -39,6 +39,7 @@ bytes_given (contents.Fill value count) = replicate count value
 -- the call that a draft stands for
 abbrev pub call_drafted : Draft → Call
 call_drafted (drafts.Write path offset content) = calls.Write path offset (bytes_given content)
+call_drafted (drafts.Setx path key content) = calls.Setx path key (bytes_given content)
 call_drafted (drafts.Whole call) = call
 
 -- a word is read as what it spells; one that spells nothing is refused for this reason, or memory was refused
@@ -47,7 +48,7 @@ IsReadWord (Ok value) spelled reason = spelled ≡ Some value
 IsReadWord (Err (faults.Bad why)) spelled reason = (spelled ≡ None) × (why ≡ reason)
 IsReadWord (Err faults.NoMemory) spelled reason = Unit {0}
 
--- the same of the bytes of a write
+-- the same of bytes
 abbrev pub IsReadBytes : Result Content LineFault → Option (List ℕ) → Type 0
 IsReadBytes (Ok content) spelled = spelled ≡ Some (bytes_given content)
 IsReadBytes (Err (faults.Bad why)) spelled = (spelled ≡ None) × (why ≡ reasons.Bytes)

@@ -1,86 +1,51 @@
 -- Which line of a text is refused, and for which reason.
-use Rattle.std.specs.Prelude.{◌≡◌, ◌⊎◌, ℕ, ◌+◌, ◌<◌, ◌≤◌, List, ◌∷◌, ◌++◌, Err, codes, length, take, drop, sum_by}
+use Rattle.std.specs.Prelude.{◌≡◌, ◌⊎◌, ℕ, ◌+◌, ◌<◌, ◌≤◌, List, [], ◌∷◌, ◌++◌, Err, length, sum_by}
 use Rattle.std.specs.List.{AllByRecursion}
 use Rattle.std.specs.Str.{IsUtf8}
-use Rattle.plain_tree.specs.Paths.{Path}
 use Rattle.session_script.specs.Bounds.{longest_script, most_asked, most_calls, most_in_all, most_written}
 use Rattle.session_script.specs.declared.scripts.ScriptErr.{ScriptErr}
 use Rattle.session_script.specs.declared.scripts.ScriptLine.{ScriptLine}
 use Rattle.session_script.specs.declared.scripts.ScriptWhy.{ScriptWhy}
 use Rattle.session_script.specs.declared.scripts.ScriptWhy.TheVariants as reasons
 use Rattle.session_script.specs.declared.words.Verb.{Verb}
-use Rattle.session_script.specs.declared.words.Verb.TheVariants as verbs
+use Rattle.session_script.specs.Forms.{Form, Value, rank, reason_of, verb_text, forms_of}
 use Rattle.session_script.specs.Grammar.{calls_of, bytes_written, bytes_asked, script_of}
-use Rattle.session_script.specs.ScriptText.{IsJoined, SpellsSession, SpellsPath, SpellsNumber, SpellsBytes}
+use Rattle.session_script.specs.ScriptText.{IsJoined, SpellsSession, SpellsValue}
 use Rattle.session_script.specs.ScriptText.{IsSkippedLine, IsCallLine, SpellLines, IsWithinLimits}
 
--- the word that names a call
-abbrev pub verb_text : Verb → List ℕ
-verb_text verbs.Mkdir = codes "mkdir"
-verb_text verbs.Create = codes "create"
-verb_text verbs.Write = codes "write"
-verb_text verbs.Truncate = codes "truncate"
-verb_text verbs.Read = codes "read"
-verb_text verbs.List = codes "list"
-verb_text verbs.Stat = codes "stat"
-verb_text verbs.Rename = codes "rename"
-verb_text verbs.Remove = codes "remove"
-verb_text verbs.Sync = codes "sync"
-
--- how many paths a call takes, which stand first behind its name
-abbrev pub path_count : Verb → ℕ
-path_count verbs.Rename = 2
-path_count verbs.Sync = 0
-path_count _ = 1
-
--- how many numbers it takes, which stand behind the paths
-abbrev pub number_count : Verb → ℕ
-number_count verbs.Write = 1
-number_count verbs.Truncate = 1
-number_count verbs.Read = 2
-number_count _ = 0
-
--- how many words of bytes it takes, which stand last
-abbrev pub content_count : Verb → ℕ
-content_count verbs.Write = 1
-content_count _ = 0
-
--- as many words as the call takes, none of them empty
+-- as many words as the verb has forms, none of them empty
 pub record HasWords (verb : Verb) (words : List (List ℕ)) : Type 0 where
-  pub count : length words ≡ path_count verb + number_count verb + content_count verb
+  pub count : length words ≡ length (forms_of verb)
   pub full : AllByRecursion (λ w. 1 ≤ length w) words
 
--- each word that stands for a path spells one
-abbrev pub HasPaths : Verb → List (List ℕ) → Type 0
-HasPaths verb words = AllByRecursion (λ w. (path : Path) × SpellsPath w path) (take (path_count verb) words)
+-- a word of this form
+abbrev pub HasForm : Form → List ℕ → Type 0
+HasForm form word = (value : Value form) × SpellsValue form word value
 
--- each word that stands for a number spells one
-abbrev pub HasNumbers : Verb → List (List ℕ) → Type 0
-HasNumbers verb words =
-    AllByRecursion (λ w. (n : ℕ) × SpellsNumber w n) (take (number_count verb) (drop (path_count verb) words))
+-- the first of the words that isn't of its form is refused for this reason
+abbrev pub FirstWrong : List Form → List (List ℕ) → ScriptWhy → Type 0
+FirstWrong (form ∷ forms) (word ∷ words) why =
+    ((HasForm form word → ⊥) × (why ≡ reason_of form)) ⊎ (HasForm form word × FirstWrong forms words why)
+FirstWrong _ _ why = ⊥
 
--- each word that stands for the bytes of a write spells such
-abbrev pub HasContent : Verb → List (List ℕ) → Type 0
-HasContent verb words =
-    AllByRecursion (λ w. (bytes : List ℕ) × SpellsBytes w bytes)
-    (drop (number_count verb) (drop (path_count verb) words))
+-- the words behind a session begin with this verb
+abbrev pub NamesVerb : List (List ℕ) → Verb → List (List ℕ) → Type 0
+NamesVerb words verb rest = words ≡ verb_text verb ∷ rest
 
--- the first form that the words behind a session lack: they name a call, are as many as it takes, and spell its paths,
--- its numbers and its bytes
+-- the first form that the words behind a session lack: they name a call, are as many as it takes, and each is of its
+-- form
 abbrev pub LacksForm : List (List ℕ) → ScriptWhy → Type 0
-LacksForm words reasons.Verb = (verb : Verb) (rest : List (List ℕ)) → words ≡ verb_text verb ∷ rest → ⊥
+LacksForm words reasons.Verb = (verb : Verb) (rest : List (List ℕ)) → NamesVerb words verb rest → ⊥
 LacksForm words reasons.Words =
-    (verb : Verb) × (rest : List (List ℕ)) × (words ≡ verb_text verb ∷ rest) × (HasWords verb rest → ⊥)
-LacksForm words reasons.Path =
-    (verb : Verb) × (rest : List (List ℕ)) × (words ≡ verb_text verb ∷ rest) × HasWords verb rest
-    × (HasPaths verb rest → ⊥)
-LacksForm words reasons.Number =
-    (verb : Verb) × (rest : List (List ℕ)) × (words ≡ verb_text verb ∷ rest) × HasWords verb rest × HasPaths verb rest
-    × (HasNumbers verb rest → ⊥)
-LacksForm words reasons.Bytes =
-    (verb : Verb) × (rest : List (List ℕ)) × (words ≡ verb_text verb ∷ rest) × HasWords verb rest × HasPaths verb rest
-    × HasNumbers verb rest × (HasContent verb rest → ⊥)
-LacksForm words _ = ⊥
+    (verb : Verb) × (rest : List (List ℕ)) × NamesVerb words verb rest × (HasWords verb rest → ⊥)
+LacksForm words why =
+    (verb : Verb) × (rest : List (List ℕ)) × NamesVerb words verb rest × HasWords verb rest
+    × FirstWrong (forms_of verb) rest why
+
+-- each form comes before none whose reason is an earlier one
+abbrev pub StandInOrder : List Form → Type 0
+StandInOrder [] = Unit {0}
+StandInOrder (form ∷ forms) = AllByRecursion (λ later. rank form ≤ rank later) forms × StandInOrder forms
 
 -- the first limit that a call passes behind the lines before it: the calls of its session, the bytes of the call, and
 -- those of all writes or of all reads
@@ -138,8 +103,9 @@ IsTooLong text e = (e ≡ record { line = 0; why = reasons.Long }) × (longest_s
 abbrev pub IsRefusal : List ℕ → ScriptErr → Type 0
 IsRefusal text e = IsTooLong text e ⊎ IsRefusedText text e
 
--- what is refused is refused at its first line that lacks a form or passes a limit, for the first of them; and what has
--- such a line is refused so
+-- What is refused is refused at its first line that lacks a form or passes a limit, for the first of them; and what has
+-- such a line is refused so. The first word that isn't of its form has the first of the reasons in their order.
 pub record RefusesTheFirst : Type 0 where
   pub found : (text : List ℕ) (e : ScriptErr) → script_of text ≡ Err e → IsRefusal text e
   pub only : (text : List ℕ) (e : ScriptErr) → IsRefusal text e → script_of text ≡ Err e
+  pub ordered : (verb : Verb) → StandInOrder (forms_of verb)

@@ -1,16 +1,21 @@
 -- Scripts as they are spelled, line by line and word by word.
 use Rattle.std.specs.Prelude.{◌≡◌, ◌≢◌, ◌⊎◌, ℕ, ◌+◌, ◌-◌, ◌*◌, ◌^◌, ◌<◌, ◌≤◌, List, [], ◌∷◌, ◌++◌, Ok, codes, length}
-use Rattle.std.specs.Prelude.{replicate, sum_by, slice_index}
+use Rattle.std.specs.Prelude.{replicate, sum_by, slice_index, Bool, true, false}
 use Rattle.std.specs.List.{AllByRecursion, join_with_byte}
 use Rattle.std.specs.Str.{IsUtf8}
 use Rattle.percent_encoding.specs.Percent.{percent_decode}
 use Rattle.plain_tree.specs.declared.calls.Call.{Call}
 use Rattle.plain_tree.specs.declared.calls.Call.TheVariants.{Mkdir, Create, Write, Truncate, Read, Listing, Stat}
-use Rattle.plain_tree.specs.declared.calls.Call.TheVariants.{Rename, Remove, Sync}
+use Rattle.plain_tree.specs.declared.calls.Call.TheVariants.{Rename, Remove, Setx, Getx, Dropx, Readonly}
+use Rattle.plain_tree.specs.declared.calls.Call.TheVariants.{LockVolume, UnlockVolume, PermLock, Sync}
 use Rattle.plain_tree.specs.Paths.{Name, Path}
 use Rattle.session_script.specs.Bounds.{longest_script, most_asked, most_calls, most_in_all, most_sessions}
 use Rattle.session_script.specs.Bounds.{most_written}
 use Rattle.session_script.specs.declared.scripts.ScriptLine.{ScriptLine}
+use Rattle.session_script.specs.declared.words.Verb.{Verb}
+use Rattle.session_script.specs.declared.words.Verb.TheVariants as verbs
+use Rattle.session_script.specs.Forms.{Form, Value, Values, a_path, a_key, a_flag, a_number, some_bytes}
+use Rattle.session_script.specs.Forms.{verb_text, forms_of}
 use Rattle.session_script.specs.Grammar.{calls_of, bytes_written, bytes_asked, script_of}
 
 -- a piece that does not have the byte
@@ -45,12 +50,16 @@ pub record SpellsSession (word : List ℕ) (who : ℕ) : Type 0 where
   pub high : who ≤ most_sessions
   pub no_zero : slice_index word 0 ≢ 48
 
--- a name isn't empty, has no slash, and is UTF-8 once its escapes are decoded
+-- a text is spelled by one byte or more, and is UTF-8 once its escapes are decoded
+pub record SpellsText (word text : List ℕ) : Type 0 where
+  pub some : 1 ≤ length word
+  pub decoded : percent_decode word ≡ text
+  pub valid : IsUtf8 text
+
+-- a name is such a text, spelled without a slash
 pub record SpellsName (piece : List ℕ) (name : Name) : Type 0 where
-  pub some : 1 ≤ length piece
   pub no_slash : Lacks 47 piece
-  pub decoded : percent_decode piece ≡ name
-  pub text : IsUtf8 name
+  pub spelled : SpellsText piece name
 
 -- a slash before each name
 abbrev pub SpellsNames : List ℕ → Path → Type 0
@@ -94,28 +103,54 @@ IsFillWord word bytes =
     × (word ≡ codes "fill:" ++ high ∷ low ∷ 58 ∷ count) × SpellsByte high low byte × SpellsNumber count n
     × (bytes ≡ replicate n byte)
 
--- the bytes of a write
+-- bytes, in one of these three ways
 abbrev pub SpellsBytes : List ℕ → List ℕ → Type 0
 SpellsBytes word bytes = IsHexWord word bytes ⊎ (IsTextWord word bytes ⊎ IsFillWord word bytes)
 
+-- a flag is one of two words
+abbrev pub SpellsFlag : List ℕ → Bool → Type 0
+SpellsFlag word true = word ≡ codes "true"
+SpellsFlag word false = word ≡ codes "false"
+
+-- a word of this form that stands for this value
+abbrev pub SpellsValue : (form : Form) → List ℕ → Value form → Type 0
+SpellsValue a_path word path = SpellsPath word path
+SpellsValue a_key word key = SpellsText word key
+SpellsValue a_flag word on = SpellsFlag word on
+SpellsValue a_number word n = SpellsNumber word n
+SpellsValue some_bytes word bytes = SpellsBytes word bytes
+
+-- a word for each of the forms, each for its value
+abbrev pub SpellValues : (forms : List Form) → List (List ℕ) → Values forms → Type 0
+SpellValues [] [] values = Unit {0}
+SpellValues (form ∷ forms) (word ∷ words) values = SpellsValue form word values.0 × SpellValues forms words values.1
+SpellValues _ _ values = ⊥
+
+-- a verb, and the words behind it for these values
+pub record SpellsVerb (words : List (List ℕ)) (verb : Verb) (values : Values (forms_of verb)) : Type 0 where
+  pub rest : List (List ℕ)
+  pub are : words ≡ verb_text verb ∷ rest
+  pub spelled : SpellValues (forms_of verb) rest values
+
 -- the words of a call behind its session
 abbrev pub SpellsCall : List (List ℕ) → Call → Type 0
-SpellsCall words (Mkdir path) = (p : List ℕ) × (words ≡ codes "mkdir" ∷ p ∷ []) × SpellsPath p path
-SpellsCall words (Create path) = (p : List ℕ) × (words ≡ codes "create" ∷ p ∷ []) × SpellsPath p path
-SpellsCall words (Write path offset bytes) =
-    (p : List ℕ) × (n : List ℕ) × (b : List ℕ) × (words ≡ codes "write" ∷ p ∷ n ∷ b ∷ []) × SpellsPath p path
-    × SpellsNumber n offset × SpellsBytes b bytes
-SpellsCall words (Truncate path length) =
-    (p : List ℕ) × (n : List ℕ) × (words ≡ codes "truncate" ∷ p ∷ n ∷ []) × SpellsPath p path × SpellsNumber n length
-SpellsCall words (Read path offset count) =
-    (p : List ℕ) × (n : List ℕ) × (m : List ℕ) × (words ≡ codes "read" ∷ p ∷ n ∷ m ∷ []) × SpellsPath p path
-    × SpellsNumber n offset × SpellsNumber m count
-SpellsCall words (Listing path) = (p : List ℕ) × (words ≡ codes "list" ∷ p ∷ []) × SpellsPath p path
-SpellsCall words (Stat path) = (p : List ℕ) × (words ≡ codes "stat" ∷ p ∷ []) × SpellsPath p path
-SpellsCall words (Rename from to) =
-    (p : List ℕ) × (q : List ℕ) × (words ≡ codes "rename" ∷ p ∷ q ∷ []) × SpellsPath p from × SpellsPath q to
-SpellsCall words (Remove path) = (p : List ℕ) × (words ≡ codes "remove" ∷ p ∷ []) × SpellsPath p path
-SpellsCall words Sync = words ≡ codes "sync" ∷ []
+SpellsCall words (Mkdir path) = SpellsVerb words verbs.Mkdir (path, tt)
+SpellsCall words (Create path) = SpellsVerb words verbs.Create (path, tt)
+SpellsCall words (Write path offset bytes) = SpellsVerb words verbs.Write (path, (offset, (bytes, tt)))
+SpellsCall words (Truncate path length) = SpellsVerb words verbs.Truncate (path, (length, tt))
+SpellsCall words (Read path offset count) = SpellsVerb words verbs.Read (path, (offset, (count, tt)))
+SpellsCall words (Listing path) = SpellsVerb words verbs.List (path, tt)
+SpellsCall words (Stat path) = SpellsVerb words verbs.Stat (path, tt)
+SpellsCall words (Rename from to) = SpellsVerb words verbs.Rename (from, (to, tt))
+SpellsCall words (Remove path) = SpellsVerb words verbs.Remove (path, tt)
+SpellsCall words (Setx path key bytes) = SpellsVerb words verbs.Setx (path, (key, (bytes, tt)))
+SpellsCall words (Getx path key) = SpellsVerb words verbs.Getx (path, (key, tt))
+SpellsCall words (Dropx path key) = SpellsVerb words verbs.Dropx (path, (key, tt))
+SpellsCall words (Readonly path on) = SpellsVerb words verbs.Readonly (path, (on, tt))
+SpellsCall words LockVolume = SpellsVerb words verbs.Lock tt
+SpellsCall words UnlockVolume = SpellsVerb words verbs.Unlock tt
+SpellsCall words PermLock = SpellsVerb words verbs.Permlock tt
+SpellsCall words Sync = SpellsVerb words verbs.Sync tt
 
 -- a session and its call, with exactly one space between two words
 pub record IsCallLine (line : List ℕ) (spelled : ScriptLine) : Type 0 where
@@ -139,7 +174,8 @@ SpellLines (line ∷ lines) (spelled ∷ script) =
     IsUtf8 line
     × ((IsSkippedLine line × SpellLines lines (spelled ∷ script)) ⊎ (IsCallLine line spelled × SpellLines lines script))
 
--- 1,024 calls a session, 65,536 bytes a write and 1,048,576 a read, and 67,108,864 bytes in all for either
+-- 1,024 calls a session, 65,536 bytes a write or a value of a key and 1,048,576 a read, and 67,108,864 bytes in all for
+-- either
 pub record IsWithinLimits (script : List ScriptLine) : Type 0 where
   pub calls : (who : ℕ) → length (calls_of script who) ≤ most_calls
   pub written : AllByRecursion (λ l. bytes_written l.call ≤ most_written) script

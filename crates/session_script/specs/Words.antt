@@ -1,5 +1,5 @@
 -- The words of a script's line, and what each form of word spells.
-use Rattle.std.specs.Prelude.{ℕ, ◌+◌, ◌-◌, ◌*◌, ◌^◌, List, [], ◌∷◌, Bool, ◌&&◌, not, nat_le, nat_lt, nat_eq, ◌==◌}
+use Rattle.std.specs.Prelude.{ℕ, ◌+◌, ◌-◌, ◌*◌, ◌^◌, List, [], ◌∷◌, Bool, true, false, ◌&&◌, not, nat_le, nat_lt, nat_eq, ◌==◌}
 use Rattle.std.specs.Prelude.{if◌then◌else◌, fold, length, drop, replicate, Option, Some, None, option_and_then, codes}
 use Rattle.std.specs.List.{list_all, slice_split, starts_with}
 use Rattle.std.specs.Option.{option_map}
@@ -8,6 +8,7 @@ use Rattle.std.specs.Char.{digit_value, is_digit}
 use Rattle.percent_encoding.specs.Percent.{percent_decode}
 use Rattle.plain_tree.specs.Paths.{Name, Path}
 use Rattle.session_script.specs.Bounds.{most_sessions}
+use Rattle.session_script.specs.Forms.{Form, Value, a_path, a_key, a_flag, a_number, some_bytes}
 use Rattle.session_script.specs.declared.words.Verb.{Verb}
 use Rattle.session_script.specs.declared.words.Verb.TheVariants as verbs
 
@@ -48,6 +49,13 @@ verb_of word =
     else if bytes_eq word (codes "stat") then Some verbs.Stat
     else if bytes_eq word (codes "rename") then Some verbs.Rename
     else if bytes_eq word (codes "remove") then Some verbs.Remove
+    else if bytes_eq word (codes "setx") then Some verbs.Setx
+    else if bytes_eq word (codes "getx") then Some verbs.Getx
+    else if bytes_eq word (codes "dropx") then Some verbs.Dropx
+    else if bytes_eq word (codes "readonly") then Some verbs.Readonly
+    else if bytes_eq word (codes "lock") then Some verbs.Lock
+    else if bytes_eq word (codes "unlock") then Some verbs.Unlock
+    else if bytes_eq word (codes "permlock") then Some verbs.Permlock
     else if bytes_eq word (codes "sync") then Some verbs.Sync
     else None
 
@@ -55,9 +63,13 @@ verb_of word =
 abbrev pub text_of : List ℕ → Option (List ℕ)
 text_of bytes = if is_utf8 bytes then Some bytes else None
 
--- a name isn't empty, and is UTF-8 once its escapes are decoded
+-- the text of a word that isn't empty, and is UTF-8 once its escapes are decoded
+abbrev pub unescaped : List ℕ → Option (List ℕ)
+unescaped word = if is_empty word then None else text_of (percent_decode word)
+
+-- a name is the text of a piece between slashes
 abbrev pub name_of : List ℕ → Option Name
-name_of piece = if is_empty piece then None else text_of (percent_decode piece)
+name_of piece = unescaped piece
 
 -- the names of pieces that are all names
 abbrev pub names_of : List (List ℕ) → Option Path
@@ -70,6 +82,16 @@ abbrev pub path_of : List ℕ → Option Path
 path_of [] = None
 path_of (c ∷ rest) =
     if c == 47 then (if is_empty rest then Some [] else names_of (slice_split (λ b. b == 47) rest)) else None
+
+-- a key is the text of a whole word
+abbrev pub key_of : List ℕ → Option (List ℕ)
+key_of word = unescaped word
+
+abbrev pub flag_of : List ℕ → Option Bool
+flag_of word =
+    if bytes_eq word (codes "true") then Some true
+    else if bytes_eq word (codes "false") then Some false
+    else None
 
 -- the byte that two hexadecimal digits spell
 abbrev pub hex_value : ℕ → ℕ → Option ℕ
@@ -95,10 +117,18 @@ fill_bytes (high ∷ low ∷ colon ∷ count) =
     else None
 fill_bytes _ = None
 
--- the bytes of a write
+-- the bytes that are written to a file or given to a key
 abbrev pub bytes_of : List ℕ → Option (List ℕ)
 bytes_of word =
     if starts_with nat_eq word (codes "hex:") then hex_bytes (drop 4 word)
     else if starts_with nat_eq word (codes "text:") then text_bytes (drop 5 word)
     else if starts_with nat_eq word (codes "fill:") then fill_bytes (drop 5 word)
     else None
+
+-- what a word spells that is to be of this form
+abbrev pub value_of : (form : Form) → List ℕ → Option (Value form)
+value_of a_path word = path_of word
+value_of a_key word = key_of word
+value_of a_flag word = flag_of word
+value_of a_number word = number_of word
+value_of some_bytes word = bytes_of word

@@ -10,7 +10,7 @@ use crate::words::read_number;
 use std::alloc::Global;
 use tape_types::{Bytes, NoMemory};
 
-/// The bytes of a write, before a row of one value is made.
+/// Bytes that are to be written, before a row of one value is made.
 #[derive(Drop)]
 pub enum Content {
     Given(Bytes),

@@ -6,19 +6,26 @@ ghost use Rattle.session_script.specs.Readings.{call_drafted, call_given, IsDraf
 
 use crate::bytes::{Content, read_bytes};
 use crate::faults::LineFault;
-use crate::paths::read_path;
+use crate::paths::{read_key, read_path};
 use crate::scripts::ScriptWhy;
-use crate::words::{Arguments, Verb, cut, read_arguments, read_number, read_session, read_verb};
+use crate::words::{
+    Arguments, Verb, cut, read_arguments, read_flag, read_number, read_session, read_verb,
+};
 use plain_tree::Call;
 use std::alloc::Global;
 use tape_types::{List, NoMemory, Text};
 
-/// A call, before the bytes of a write are made.
+/// A call, before the bytes that it writes are made.
 #[derive(Drop)]
 pub enum Draft {
     Write {
         path: List<Text>,
         offset: u64,
+        content: Content,
+    },
+    Setx {
+        path: List<Text>,
+        key: Text,
         content: Content,
     },
     Whole(Call),
@@ -31,6 +38,7 @@ impl Draft {
     {
         match self {
             Draft::Write { content, .. } => content.len(),
+            Draft::Setx { content, .. } => content.len(),
             Draft::Whole(call) => bytes_written(call),
         }
     }
@@ -41,6 +49,7 @@ impl Draft {
     {
         match self {
             Draft::Write { .. } => 0,
+            Draft::Setx { .. } => 0,
             Draft::Whole(call) => bytes_asked(call),
         }
     }
@@ -58,6 +67,11 @@ impl Draft {
                 offset,
                 bytes: content.into_bytes(alloc)?,
             }),
+            Draft::Setx { path, key, content } => Ok(Call::Setx {
+                path,
+                key,
+                bytes: content.into_bytes(alloc)?,
+            }),
             Draft::Whole(call) => Ok(call),
         }
     }
@@ -69,6 +83,7 @@ pub fn bytes_written(call: &Call) -> u64
 {
     match call {
         Call::Write { bytes, .. } => bytes.len() as u64,
+        Call::Setx { bytes, .. } => bytes.len() as u64,
         _ => 0,
     }
 }
@@ -101,14 +116,8 @@ fn read_call(alloc: Global, verb: Verb, words: Arguments) -> Result<Draft, LineF
     ensures { IsDrafted result (call_given verb words.entry) }
 {
     match (verb, words) {
-        (Verb::Mkdir, Arguments::One(path)) => {
-            let path = read_path(alloc, path)?;
-            Ok(Draft::Whole(Call::Mkdir { path }))
-        }
-        (Verb::Create, Arguments::One(path)) => {
-            let path = read_path(alloc, path)?;
-            Ok(Draft::Whole(Call::Create { path }))
-        }
+        (Verb::Mkdir, Arguments::One(path)) => read_mkdir(alloc, path),
+        (Verb::Create, Arguments::One(path)) => read_create(alloc, path),
         (Verb::Write, Arguments::Three(path, offset, bytes)) => {
             read_write(alloc, path, offset, bytes)
         }
@@ -116,22 +125,34 @@ fn read_call(alloc: Global, verb: Verb, words: Arguments) -> Result<Draft, LineF
         (Verb::Read, Arguments::Three(path, offset, count)) => {
             read_read(alloc, path, offset, count)
         }
-        (Verb::List, Arguments::One(path)) => {
-            let path = read_path(alloc, path)?;
-            Ok(Draft::Whole(Call::Listing { path }))
-        }
-        (Verb::Stat, Arguments::One(path)) => {
-            let path = read_path(alloc, path)?;
-            Ok(Draft::Whole(Call::Stat { path }))
-        }
+        (Verb::List, Arguments::One(path)) => read_list(alloc, path),
+        (Verb::Stat, Arguments::One(path)) => read_stat(alloc, path),
         (Verb::Rename, Arguments::Two(from, to)) => read_rename(alloc, from, to),
-        (Verb::Remove, Arguments::One(path)) => {
-            let path = read_path(alloc, path)?;
-            Ok(Draft::Whole(Call::Remove { path }))
-        }
+        (Verb::Remove, Arguments::One(path)) => read_remove(alloc, path),
+        (Verb::Setx, Arguments::Three(path, key, bytes)) => read_setx(alloc, path, key, bytes),
+        (Verb::Getx, Arguments::Two(path, key)) => read_getx(alloc, path, key),
+        (Verb::Dropx, Arguments::Two(path, key)) => read_dropx(alloc, path, key),
+        (Verb::Readonly, Arguments::Two(path, flag)) => read_readonly(alloc, path, flag),
+        (Verb::Lock, Arguments::Nothing) => Ok(Draft::Whole(Call::LockVolume)),
+        (Verb::Unlock, Arguments::Nothing) => Ok(Draft::Whole(Call::UnlockVolume)),
+        (Verb::Permlock, Arguments::Nothing) => Ok(Draft::Whole(Call::PermLock)),
         (Verb::Sync, Arguments::Nothing) => Ok(Draft::Whole(Call::Sync)),
         _ => Err(LineFault::Bad(ScriptWhy::Words)),
     }
+}
+
+fn read_mkdir(alloc: Global, path: &[u8]) -> Result<Draft, LineFault>
+    ensures { IsDrafted result (call_by verbs.Mkdir (path.now ∷ [])) }
+{
+    let path = read_path(alloc, path)?;
+    Ok(Draft::Whole(Call::Mkdir { path }))
+}
+
+fn read_create(alloc: Global, path: &[u8]) -> Result<Draft, LineFault>
+    ensures { IsDrafted result (call_by verbs.Create (path.now ∷ [])) }
+{
+    let path = read_path(alloc, path)?;
+    Ok(Draft::Whole(Call::Create { path }))
 }
 
 fn read_write(alloc: Global, path: &[u8], offset: &[u8], bytes: &[u8]) -> Result<Draft, LineFault>
@@ -168,10 +189,64 @@ fn read_read(alloc: Global, path: &[u8], offset: &[u8], count: &[u8]) -> Result<
     }))
 }
 
+fn read_list(alloc: Global, path: &[u8]) -> Result<Draft, LineFault>
+    ensures { IsDrafted result (call_by verbs.List (path.now ∷ [])) }
+{
+    let path = read_path(alloc, path)?;
+    Ok(Draft::Whole(Call::Listing { path }))
+}
+
+fn read_stat(alloc: Global, path: &[u8]) -> Result<Draft, LineFault>
+    ensures { IsDrafted result (call_by verbs.Stat (path.now ∷ [])) }
+{
+    let path = read_path(alloc, path)?;
+    Ok(Draft::Whole(Call::Stat { path }))
+}
+
 fn read_rename(alloc: Global, from: &[u8], to: &[u8]) -> Result<Draft, LineFault>
     ensures { IsDrafted result (call_by verbs.Rename (from.now ∷ to.now ∷ [])) }
 {
     let from = read_path(alloc, from)?;
     let to = read_path(alloc, to)?;
     Ok(Draft::Whole(Call::Rename { from, to }))
+}
+
+fn read_remove(alloc: Global, path: &[u8]) -> Result<Draft, LineFault>
+    ensures { IsDrafted result (call_by verbs.Remove (path.now ∷ [])) }
+{
+    let path = read_path(alloc, path)?;
+    Ok(Draft::Whole(Call::Remove { path }))
+}
+
+fn read_setx(alloc: Global, path: &[u8], key: &[u8], bytes: &[u8]) -> Result<Draft, LineFault>
+    ensures { IsDrafted result (call_by verbs.Setx (path.now ∷ key.now ∷ bytes.now ∷ [])) }
+{
+    let path = read_path(alloc, path)?;
+    let key = read_key(alloc, key)?;
+    let content = read_bytes(alloc, bytes)?;
+    Ok(Draft::Setx { path, key, content })
+}
+
+fn read_getx(alloc: Global, path: &[u8], key: &[u8]) -> Result<Draft, LineFault>
+    ensures { IsDrafted result (call_by verbs.Getx (path.now ∷ key.now ∷ [])) }
+{
+    let path = read_path(alloc, path)?;
+    let key = read_key(alloc, key)?;
+    Ok(Draft::Whole(Call::Getx { path, key }))
+}
+
+fn read_dropx(alloc: Global, path: &[u8], key: &[u8]) -> Result<Draft, LineFault>
+    ensures { IsDrafted result (call_by verbs.Dropx (path.now ∷ key.now ∷ [])) }
+{
+    let path = read_path(alloc, path)?;
+    let key = read_key(alloc, key)?;
+    Ok(Draft::Whole(Call::Dropx { path, key }))
+}
+
+fn read_readonly(alloc: Global, path: &[u8], flag: &[u8]) -> Result<Draft, LineFault>
+    ensures { IsDrafted result (call_by verbs.Readonly (path.now ∷ flag.now ∷ [])) }
+{
+    let path = read_path(alloc, path)?;
+    let on = read_flag(flag).ok_or(ScriptWhy::Flag)?;
+    Ok(Draft::Whole(Call::Readonly { path, on }))
 }

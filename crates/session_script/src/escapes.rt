@@ -1,5 +1,5 @@
 ghost use Rattle.std.specs.Prelude.{◌≡◌, ◌++◌, OnErr, OnOk, string_bytes};
-ghost use Rattle.session_script.specs.Escapes.{escaped};
+ghost use Rattle.session_script.specs.Escapes.{escaped, is_escaped};
 
 use percent_encoding::{AsciiSet, CONTROLS, ascii_set, percent_encode};
 use tape_types::NoMemory;
@@ -15,4 +15,11 @@ pub fn push_escaped(words: &mut String, text: &[u8]) -> Result<(), NoMemory>
 {
     percent_encode(text, ESCAPED).append_to(words)?;
     Ok(())
+}
+
+/// Whether a byte is escaped.
+pub fn is_escaped(byte: u8) -> bool
+    ensures { result ≡ is_escaped byte }
+{
+    byte <= b' ' || byte == b'%' || byte >= 127
 }

@@ -4,7 +4,9 @@ use tape_types::NoMemory;
 /// Why a line gives no call.
 #[derive(Clone, Copy, Debug, PartialEq, Eq)]
 pub enum LineFault {
+    /// The line is refused, for the first of the reasons that holds of it.
     Bad(ScriptWhy),
+    /// Memory was refused, so nothing is known of the line.
     NoMemory,
 }
 

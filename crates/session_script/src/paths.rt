@@ -1,6 +1,6 @@
 ghost use Rattle.std.specs.Prelude.{◌≡◌, ◌==◌, IfOk};
 ghost use Rattle.std.specs.List.{slice_split};
-ghost use Rattle.session_script.specs.Words.{path_of, names_of, name_of, text_of};
+ghost use Rattle.session_script.specs.Words.{key_of, path_of, names_of, text_of, unescaped};
 ghost use Rattle.session_script.specs.Readings.{IsReadWord};
 ghost use Rattle.session_script.specs.declared.scripts.ScriptWhy.TheVariants as reasons;
 
@@ -30,7 +30,7 @@ fn read_names(alloc: Global, text: &[u8]) -> Result<Option<List<Text>>, NoMemory
     let mut left = Some(text);
     while let Some(rest) = left {
         let (piece, more) = cut(rest, b'/');
-        let Some(name) = read_name(alloc, piece)? else {
+        let Some(name) = read_escaped(alloc, piece)? else {
             return Ok(None);
         };
         names.push(name)?;
@@ -39,15 +39,22 @@ fn read_names(alloc: Global, text: &[u8]) -> Result<Option<List<Text>>, NoMemory
     Ok(Some(names))
 }
 
-/// The name that a piece spells, where it is one.
-fn read_name(alloc: Global, piece: &[u8]) -> Result<Option<Text>, NoMemory>
-    ensures { IfOk result (λ name. name ≡ name_of piece.now) }
+/// The key that a word spells.
+pub fn read_key(alloc: Global, word: &[u8]) -> Result<Text, LineFault>
+    ensures { IsReadWord result (key_of word.now) reasons.Key }
 {
-    if piece.is_empty() {
+    read_escaped(alloc, word)?.ok_or(LineFault::Bad(ScriptWhy::Key))
+}
+
+/// The text that a word spells with its escapes, where it is one.
+fn read_escaped(alloc: Global, word: &[u8]) -> Result<Option<Text>, NoMemory>
+    ensures { IfOk result (λ text. text ≡ unescaped word.now) }
+{
+    if word.is_empty() {
         return Ok(None);
     }
     let mut bytes = Vec::new(alloc);
-    percent_decode(piece).append_to(&mut bytes)?;
+    percent_decode(word).append_to(&mut bytes)?;
     Ok(text_of(bytes))
 }
 

@@ -46,5 +46,5 @@ fn read_lines(alloc: Global, text: &[u8]) -> Result<Script, ScriptFault>
         }
         left = more;
     }
-    Ok(progress.script)
+    Ok(progress.into_script())
 }

@@ -24,15 +24,19 @@ pub enum ScriptWhy {
     Words,
     /// A path is not of its form.
     Path,
+    /// A key is not of its form.
+    Key,
+    /// A flag is neither of its two words.
+    Flag,
     /// A number is not of its form.
     Number,
-    /// The bytes of a write are not of their form.
+    /// Bytes that are to be written are not of their form.
     Bytes,
     /// It is the session's 1,025th call.
     Calls,
-    /// A write has more than 65,536 bytes, or a read asks for more than 1,048,576.
+    /// A write or the value of a key has more than 65,536 bytes, or a read asks for more than 1,048,576.
     Big,
-    /// All writes so far, or all reads so far, have more than 67,108,864 bytes.
+    /// All writes and values of keys so far, or all reads so far, have more than 67,108,864 bytes.
     Sum,
 }
 
@@ -47,6 +51,8 @@ impl fmt::Display for ScriptWhy {
             ScriptWhy::Verb => "Verb",
             ScriptWhy::Words => "Words",
             ScriptWhy::Path => "Path",
+            ScriptWhy::Key => "Key",
+            ScriptWhy::Flag => "Flag",
             ScriptWhy::Number => "Number",
             ScriptWhy::Bytes => "Bytes",
             ScriptWhy::Calls => "Calls",

@@ -1,7 +1,7 @@
 ghost use Rattle.std.specs.Prelude.{◌≡◌, ◌<◌, ◌==◌, ◌∷◌, length, IfSome};
 ghost use Rattle.std.specs.List.{slice_split};
 ghost use Rattle.std.specs.Str.{bytes_eq, is_utf8};
-ghost use Rattle.session_script.specs.Words.{number_of, session_of, verb_of};
+ghost use Rattle.session_script.specs.Words.{flag_of, number_of, session_of, verb_of};
 ghost use Rattle.session_script.specs.Grammar.{is_skipped, call_with};
 ghost use Rattle.session_script.specs.Readings.{pieces_left, call_given};
 ghost use Rattle.session_script.specs.declared.words.Verb.{Verb};
@@ -21,6 +21,13 @@ pub enum Verb {
     Stat,
     Rename,
     Remove,
+    Setx,
+    Getx,
+    Dropx,
+    Readonly,
+    Lock,
+    Unlock,
+    Permlock,
     Sync,
 }
 
@@ -117,8 +124,35 @@ pub fn read_verb(word: &[u8]) -> Option<Verb>
         Some(Verb::Rename)
     } else if is_word(word, b"remove") {
         Some(Verb::Remove)
+    } else if is_word(word, b"setx") {
+        Some(Verb::Setx)
+    } else if is_word(word, b"getx") {
+        Some(Verb::Getx)
+    } else if is_word(word, b"dropx") {
+        Some(Verb::Dropx)
+    } else if is_word(word, b"readonly") {
+        Some(Verb::Readonly)
+    } else if is_word(word, b"lock") {
+        Some(Verb::Lock)
+    } else if is_word(word, b"unlock") {
+        Some(Verb::Unlock)
+    } else if is_word(word, b"permlock") {
+        Some(Verb::Permlock)
     } else if is_word(word, b"sync") {
         Some(Verb::Sync)
+    } else {
+        None
+    }
+}
+
+/// What a flag says.
+pub fn read_flag(word: &[u8]) -> Option<bool>
+    ensures { result ≡ flag_of word.now }
+{
+    if is_word(word, b"true") {
+        Some(true)
+    } else if is_word(word, b"false") {
+        Some(false)
     } else {
         None
     }

@@ -6,7 +6,7 @@ use Rattle.session_script.proofs.reading.read_lines.Given as goal
 
 abbrev pub invariant-loop-left : goal.invariant-loop-left
 invariant-loop-left l = record {
-  reading : script_from (l.number + 1) l.progress.script (pieces_left 10 l.left) ≡ script_from 1 [] (lines_of l.text);
+  reading : script_from (l.number + 1) l.progress (pieces_left 10 l.left) ≡ script_from 1 [] (lines_of l.text);
   counted : l.number + left_len l.left ≤ length l.text + 1;
 }
 
