@@ -63,6 +63,7 @@ module _ (tape : Tape) (letters : Letters) (size : ℕ) where
   pub tree_once : (index : Index) (t u : FileTree) → IsTreeOf letters size index t → IsTreeOf letters size index u → plain_of tape t ≡ plain_of tape u
   tree_once index t u h k =
       let highest = h.highest ∙ sym k.highest in
+      let lock = h.lock ∙ sym k.lock in
       let nodes = same_nodes (plain_nodes tape t.nodes) (plain_nodes tape u.nodes) (λ p.
       plain_get tape t.nodes p ∙ get_once index.nodes (length index.nodes) t.nodes u.nodes h.nodes k.nodes p ∙ sym (plain_get tape u.nodes p)) in
-      λ i. record { highest = highest i; nodes = nodes i }
+      λ i. record { highest = highest i; lock = lock i; nodes = nodes i }

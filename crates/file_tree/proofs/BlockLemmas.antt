@@ -50,7 +50,7 @@ module _ (one other : Tape) (t : FileTree) (alike : AreAlikeIn (TreeStandsIn t) 
           found (Some node) e = ap (λ n. Some n) (same_node path node e)
 
   same_plain : plain_of one t ≡ plain_of other t
-  same_plain = ap (λ nodes. record { highest = t.highest; nodes = nodes }) (same_nodes (plain_nodes one t.nodes) (plain_nodes other t.nodes) same_at)
+  same_plain = ap (λ nodes. record { highest = t.highest; lock = t.lock; nodes = nodes }) (same_nodes (plain_nodes one t.nodes) (plain_nodes other t.nodes) same_at)
 
 -- tapes alike in the blocks of a tree give the same plain tree
 pub blocks_make_the_tree : BlocksMakeTheTree

@@ -4,7 +4,7 @@ use Rattle.std.specs.FinMap as fin
 use Rattle.std.proofs.lemmas.Bool.Decides.{nat_tests}
 use Rattle.plain_tree.specs.declared.calls.Refusal.TheVariants as refusals
 use Rattle.plain_tree.specs.declared.nodes.Kind.TheVariants as plain_kinds
-use Rattle.plain_tree.specs.Refusals.{first_of, no_file, too_long}
+use Rattle.plain_tree.specs.Refusals.{first_of, no_file, read_only, too_long}
 use Rattle.plain_tree.specs.Tree as plain
 use Rattle.plain_tree.proofs.Validity.{first_none, not_refused}
 use Rattle.tape_types.specs.Bounds.{longest_file}
@@ -40,10 +40,10 @@ still_file a b file was lie =
     (now.room, record { path = now.path; node = now.node; there = now.there; is = now.is; file = now.file })
 
 -- what the checks of a write and of a truncation leave
-pub long_free : (p : plain.Tree) (path : List (List ℕ)) (n : ℕ) → first_of (no_file p.nodes path ∷ too_long n ∷ []) ≡ None → (no_file p.nodes path ≡ None) × (n ≤ longest_file)
+pub long_free : (p : plain.Tree) (path : List (List ℕ)) (n : ℕ) → first_of (no_file p.nodes path ∷ read_only p.nodes path ∷ too_long n ∷ []) ≡ None → (no_file p.nodes path ≡ None) × (n ≤ longest_file)
 long_free p path n free =
-    let a = first_none (no_file p.nodes path) (too_long n ∷ []) free in
-    let b = first_none (too_long n) [] a.1 in
+    let a = first_none (no_file p.nodes path) (read_only p.nodes path ∷ too_long n ∷ []) free in
+    let b = first_none (too_long n) [] (first_none (read_only p.nodes path) (too_long n ∷ []) a.1).1 in
     let test : nat_lt longest_file n ≡ false = not_refused (nat_lt longest_file n) refusals.TooLong b.0 in
     (a.0, within n test)
   where

@@ -30,6 +30,7 @@ use Rattle.plain_tree.specs.Paths.{Name, Path}
 use Rattle.file_tree.specs.Tree.{Nodes, FileTree, plain_kind_of, plain_node_of, plain_nodes, plain_of, whole}
 use Rattle.file_tree.specs.Mounts.{Letters, part_of, extent_of, by_offset, laid_of, IsKindOf, IsNodeOf, IsPathOf, IsBuilt, IsOnVolume, EndsNear, CanMount}
 use Rattle.file_tree.specs.Mounts.IsPathOf.{root, below}
+use Rattle.file_tree.specs.Locks.{lock_of}
 use Rattle.file_tree.specs.Told.{letter_of, raw_of, told_kind_of, name_or, told_of, told_nodes}
 use Rattle.file_tree.specs.Valid.{IsFit, IsGood, IsFileOf}
 use Rattle.file_tree.specs.Indexes.{TellsTree, AreLetters, without_room, as_told, IsSameTree, IndexesComeBack}
@@ -37,6 +38,7 @@ use Rattle.name_tries.proofs.ItemLemmas.{some_same}
 use Rattle.file_tree.proofs.PathLemmas.{by_last, same_nodes}
 use Rattle.file_tree.proofs.PlainLemmas.{plain_get, plain_len}
 use Rattle.file_tree.proofs.RawLemmas.{nothing_cut}
+use Rattle.file_tree.proofs.CarriedLemmas.{heard}
 use Rattle.file_tree.proofs.ToldLemmas.{entry_get, get_entry, last_is}
 use Rattle.file_tree.proofs.OrderLemmas as order
 use Rattle.file_tree.proofs.AgreeLemmas.{told_agree, told_file}
@@ -336,8 +338,9 @@ option_plain tape (Some n) = ap (λ k. Some (record { uid = n.uid; times = n.tim
 
 same_plain : (tape : Tape) (t other : FileTree) → IsSameTree t other → plain_of tape other ≡ plain_of tape t
 same_plain tape t other same =
-    ap (λ h. record { highest = h; nodes = plain_nodes tape other.nodes }) same.highest
-    ∙ ap (λ nodes. record { highest = t.highest; nodes = nodes }) (same_nodes (plain_nodes tape other.nodes) (plain_nodes tape t.nodes) (λ p.
+    ap (λ h. record { highest = h; lock = other.lock; nodes = plain_nodes tape other.nodes }) same.highest
+    ∙ ap (λ l. record { highest = t.highest; lock = l; nodes = plain_nodes tape other.nodes }) same.lock
+    ∙ ap (λ nodes. record { highest = t.highest; lock = t.lock; nodes = nodes }) (same_nodes (plain_nodes tape other.nodes) (plain_nodes tape t.nodes) (λ p.
     plain_get tape other.nodes p ∙ sym (option_plain tape (fin.get other.nodes p)) ∙ ap (option_map (plain_node_of tape)) (same.nodes p) ∙ option_plain tape (fin.get t.nodes p) ∙ sym (plain_get tape t.nodes p)))
 
 -- an index that tells a tree is valid, can be mounted, and is mounted as that tree
@@ -350,6 +353,7 @@ indexes_come_back = record {
       let first = order.at_entry letters t.name t.nodes (fin.len (plain_nodes whole t.nodes)) t.highest (good.valid whole) 0 ([], top.0) top.1 in
       record {
         highest = is.highest ∙ tells.highest;
+        lock = is.lock ∙ ap lock_of tells.lock ∙ heard t.lock;
         name = is.name (told_of letters t.name (fin.keys t.nodes) ([], top.0)) (ap (λ l. slice_get l 0) tells.nodes ∙ first);
         block_size = is.block_size;
         nodes = nodes_back letters t good t.block_size refl differ other.nodes (subst (λ (l : List told.Node). IsBuilt letters t.block_size l (length l) other.nodes) tells.nodes is.nodes);

@@ -9,7 +9,7 @@ use Rattle.plain_tree.specs.Paths.{same_path, parent_of, is_at_or_below, moved_p
 use Rattle.plain_tree.specs.Calls.{without, with_rename}
 use Rattle.plain_tree.specs.Tree as plain
 use Rattle.plain_tree.specs.Seen.{CanLeave, CanMove}
-use Rattle.plain_tree.proofs.Validity.{can_leave, can_move, first_none}
+use Rattle.plain_tree.proofs.Validity.{can_leave, can_move, first_none, free_within}
 use Rattle.plain_tree.proofs.MoveLemmas.{not_same, same_is, not_true}
 use Rattle.plain_tree.proofs.SeenLemmas.{unlike}
 use Rattle.std.specs.Str.{IsUtf8}
@@ -46,7 +46,7 @@ by_name p some = ⊎_elim (λ (e : p ≡ []). absurd (some e)) (λ more. more) (
 
 module _ (t : FileTree) (good : IsGood t) (number : ℕ) (at : Moment) (can : CanUnlink t number) where
   leave : CanLeave (plain_nodes whole t.nodes) can.path
-  leave = can_leave (plain_of whole t) can.path (good.valid whole) can.free
+  leave = can_leave (plain_of whole t) can.path (good.valid whole) (free_within (plain_of whole t) (asks.Remove can.path) can.free).1
 
   named : (u : List (List ℕ)) × (x : List ℕ) × (can.path ≡ u ++ x ∷ [])
   named = by_name can.path leave.named
@@ -73,7 +73,7 @@ module _ (t : FileTree) (good : IsGood t) (number : ℕ) (at : Moment) (can : Ca
 
   module _ (next : FileTree) (dir : ℕ) (middle : Nodes) (up : (p : List (List ℕ)) (x : List ℕ) → number_at t.nodes (p ++ x ∷ []) ≡ Some number → number_at t.nodes p ≡ Some dir)
       (taken : (p : List (List ℕ)) → number_at t.nodes p ≡ Some number → middle ≡ fin.remove t.nodes p) (ch : IsChangedAt middle next.nodes dir (λ a b. b ≡ touched at a))
-      (highest : next.highest ≡ t.highest) (size : next.block_size ≡ t.block_size) where
+      (highest : next.highest ≡ t.highest) (state : next.lock ≡ t.lock) (size : next.block_size ≡ t.block_size) where
     middle_is : middle ≡ fin.remove t.nodes can.path
     middle_is = taken can.path can.stands
 
@@ -88,7 +88,7 @@ module _ (t : FileTree) (good : IsGood t) (number : ℕ) (at : Moment) (can : Ca
         ∙ ap (λ p. plain.touch at p (plain_nodes tape middle)) (sym (ch.only named.0 dir_middle) ∙ sym (parent_ends named.0 named.1) ∙ ap parent_of (sym named.2))
         ∙ ap (λ m. plain.touch at (parent_of can.path) (plain_nodes tape m)) middle_is
         ∙ ap (plain.touch at (parent_of can.path)) (plain_remove tape t.nodes can.path) in
-        same_tree (plain_of tape next) (without (plain_of tape t) can.path at) highest nodes
+        same_tree (plain_of tape next) (without (plain_of tape t) can.path at) highest state nodes
         ∙ sym (after_free (plain_of tape t) (asks.Remove can.path) at (free_too tape t (asks.Remove can.path) (not_read_remove can.path) can.free))
 
     unlink_back : (k : ℕ) (f : Laid) → HasLaid next.nodes k f → HasLaid t.nodes k f
@@ -142,7 +142,7 @@ module _ (t : FileTree) (good : IsGood t) (number dir : ℕ) (name : List ℕ) (
   differ = not_same can.path to (λ e. can.apart (same_is can.path to e))
 
   move : CanMove (plain_nodes whole t.nodes) can.path to
-  move = can_move (plain_of whole t) can.path to (good.valid whole) can.free differ
+  move = can_move (plain_of whole t) can.path to (good.valid whole) (free_within (plain_of whole t) (asks.Rename can.path to) can.free).1 differ
 
   from_named : (u : List (List ℕ)) × (x : List ℕ) × (can.path ≡ u ++ x ∷ [])
   from_named = by_name can.path move.from_named
@@ -212,7 +212,7 @@ module _ (t : FileTree) (good : IsGood t) (number dir : ℕ) (name : List ℕ) (
         pub leave_there : IsThere left dir
         leave_there = (can.up, dir_left)
 
-        module _ (next : FileTree) (enter : IsChangedAt left next.nodes dir (λ a b. b ≡ touched at a)) (highest : next.highest ≡ t.highest) (size : next.block_size ≡ t.block_size) where
+        module _ (next : FileTree) (enter : IsChangedAt left next.nodes dir (λ a b. b ≡ touched at a)) (highest : next.highest ≡ t.highest) (state : next.lock ≡ t.lock) (size : next.block_size ≡ t.block_size) where
           plain_shifted : (tape : Tape) → plain_nodes tape shifted ≡ plain.moved from to (plain_nodes tape t.nodes)
           plain_shifted tape = ap (plain_nodes tape) shifted_is ∙ plain_moved tape t.nodes from to free
 
@@ -232,8 +232,8 @@ module _ (t : FileTree) (good : IsGood t) (number dir : ℕ) (name : List ℕ) (
               ∙ ap (λ p. plain.touch at p (plain_nodes tape left)) (sym (enter.only can.up dir_left) ∙ sym (parent_ends can.up name))
 
           renamed : (tape : Tape) → with_rename (plain_of tape t) can.path to at
-              ≡ record { highest = t.highest; nodes = plain.touch at (parent_of to) (plain.touch at (parent_of can.path) (plain.changed_at (plain.change_noted at) to (plain.moved can.path to (plain_nodes tape t.nodes)))) }
-          renamed tape = ap (λ b. cond b (plain_of tape t) (record { highest = t.highest; nodes = plain.touch at (parent_of to) (plain.touch at (parent_of can.path) (plain.changed_at (plain.change_noted at) to (plain.moved can.path to (plain_nodes tape t.nodes)))) })) differ
+              ≡ record { highest = t.highest; lock = t.lock; nodes = plain.touch at (parent_of to) (plain.touch at (parent_of can.path) (plain.changed_at (plain.change_noted at) to (plain.moved can.path to (plain_nodes tape t.nodes)))) }
+          renamed tape = ap (λ b. cond b (plain_of tape t) (record { highest = t.highest; lock = t.lock; nodes = plain.touch at (parent_of to) (plain.touch at (parent_of can.path) (plain.changed_at (plain.change_noted at) to (plain.moved can.path to (plain_nodes tape t.nodes)))) })) differ
 
           -- a rename leaves what the plain tree leaves
           pub move_here : IsAfter (asks.Rename can.path to) at t next
@@ -241,7 +241,7 @@ module _ (t : FileTree) (good : IsGood t) (number dir : ℕ) (name : List ℕ) (
               let nodes : plain_nodes tape next.nodes ≡ plain.touch at (parent_of to) (plain.touch at (parent_of can.path) (plain.changed_at (plain.change_noted at) to (plain.moved can.path to (plain_nodes tape t.nodes)))) =
               plain_next tape ∙ ap (plain.touch at (parent_of to)) (plain_left tape
               ∙ ap (plain.touch at (parent_of can.path)) (plain_noted tape ∙ ap (plain.changed_at (plain.change_noted at) to) (plain_shifted tape ∙ ap (λ p. plain.moved p to (plain_nodes tape t.nodes)) (sym from_named.2)))) in
-              same_tree (plain_of tape next) (record { highest = t.highest; nodes = plain.touch at (parent_of to) (plain.touch at (parent_of can.path) (plain.changed_at (plain.change_noted at) to (plain.moved can.path to (plain_nodes tape t.nodes)))) }) highest nodes
+              same_tree (plain_of tape next) (record { highest = t.highest; lock = t.lock; nodes = plain.touch at (parent_of to) (plain.touch at (parent_of can.path) (plain.changed_at (plain.change_noted at) to (plain.moved can.path to (plain_nodes tape t.nodes)))) }) highest state nodes
               ∙ sym (after_free (plain_of tape t) (asks.Rename can.path to) at (free_too tape t (asks.Rename can.path to) (not_read_rename can.path to) can.free) ∙ renamed tape)
 
           -- all files lie as they did after a rename
@@ -266,7 +266,7 @@ module _ (t : FileTree) (good : IsGood t) (number dir : ℕ) (name : List ℕ) (
           )
 
           move_named : IsUtf8 name → IsNodeName name
-          move_named utf8 = fit_name name utf8 (not_bad can.up name (first_none (bad_name to) _ can.free).0)
+          move_named utf8 = fit_name name utf8 (not_bad can.up name (first_none (bad_name to) _ (free_within (plain_of whole t) (asks.Rename can.path to) can.free).1).0)
 
           -- a rename leaves a good tree good
           pub move_good : next.name ≡ t.name → IsUtf8 name → IsGood next

@@ -11,13 +11,16 @@ pub mod RefusalLemmas
 pub mod ReadyLemmas
 pub mod EditLemmas
 pub mod BlockLemmas
+pub mod OutlineLemmas
 pub mod FitLemmas
 pub mod TreeLemmas
+pub mod AttributeLemmas
 pub mod LeaveLemmas
 pub mod WriteLemmas
 pub mod ReadLemmas
 pub mod RawLemmas
 pub mod MemberLemmas
+pub mod ShapeLemmas
 pub mod SortedRaws
 pub mod KeyLemmas
 pub mod NameLemmas

@@ -15,6 +15,7 @@ use Rattle.index_model.specs.Places.{IsAt}
 use Rattle.index_model.proofs.Walks.{all_at}
 use Rattle.file_tree.specs.declared.nodes.HeldKind.{HeldKind}
 use Rattle.file_tree.specs.declared.nodes.HeldKind.TheVariants as kinds
+use Rattle.plain_tree.specs.declared.calls.LockState.{LockState}
 use Rattle.plain_tree.specs.Paths.{Name}
 use Rattle.file_tree.specs.Tree.{Nodes}
 use Rattle.file_tree.specs.Valid.{AreFilesOf, NumbersDiffer, AreFit, IsGood}
@@ -54,9 +55,9 @@ module _ (index : Index) (letters : Letters) (size : ℕ) (can : CanMount index 
       }
 
   -- the tree that is built of an index is good
-  pub built_good : AreFilesOf size m → (name : Name) (root : told.Node) → IsAt index.nodes 0 root → name ≡ root.name → size < 2 ^ 32 → (spare : ℕ)
-      → IsGood (record { highest = index.highest; name = name; block_size = size; nodes = m; spare = spare })
-  built_good files name root first named small spare = record {
+  pub built_good : AreFilesOf size m → (name : Name) (root : told.Node) → IsAt index.nodes 0 root → name ≡ root.name → size < 2 ^ 32 → (spare : ℕ) (state : LockState)
+      → IsGood (record { highest = index.highest; lock = state; name = name; block_size = size; nodes = m; spare = spare })
+  built_good files name root first named small spare state = record {
     some_block = can.some_block;
     small_block = small;
     valid = λ tape. shape index letters size can m b tape;

@@ -1,32 +1,27 @@
 -- What a walk to a directory and one look-up in it say of a call.
-use Rattle.std.proofs.Common.{Option, ◌≡◌, ℕ, zero, suc, ◌≤◌, Bool, true, false, cond, [], ◌∷◌, ◌++◌, length, take, Some, None, is_some, Result, Ok, Err, sym, ap, ◌∙◌, refl, subst, arith}
+use Rattle.std.proofs.Common.{Option, ◌≡◌, ℕ, zero, suc, ◌≤◌, Bool, true, false, cond, List, [], ◌∷◌, ◌++◌, length, take, Some, None, is_some, sym, ap, ◌∙◌, refl, arith}
 use Rattle.std.specs.Option.{option_map}
 use Rattle.std.specs.Prelude.{◌==◌}
 use Rattle.std.specs.FinMap as fin
 use Rattle.std.proofs.lemmas.Bool.Decides.{nat_tests}
 use Rattle.std.proofs.lemmas.List.{length-append, take-append-le}
 use Rattle.std.proofs.Math.Seq.{take-append_seam}
-use Rattle.plain_tree.specs.declared.calls.Call.{Call}
 use Rattle.plain_tree.specs.declared.calls.Refusal.{Refusal}
 use Rattle.plain_tree.specs.declared.calls.Refusal.TheVariants as refusals
 use Rattle.plain_tree.specs.declared.nodes.Node as plain_node
 use Rattle.plain_tree.specs.declared.nodes.Kind as plain_kind
 use Rattle.plain_tree.specs.declared.nodes.Kind.TheVariants as plain_kinds
 use Rattle.plain_tree.specs.Paths.{Path, Name, parent_of, same_path, is_below}
-use Rattle.plain_tree.specs.Refusals.{first_of, refuse_if, bad_name, at_root, why_missing, no_node, no_dir, exists_at, rename_refusal, refusal_of}
+use Rattle.plain_tree.specs.Refusals.{first_of, refuse_if, bad_name, at_root, why_missing, no_node, no_dir, exists_at, read_only, rename_refusal}
 use Rattle.plain_tree.specs.Tree as plain
 use Rattle.plain_tree.specs.Valid.{IsValid, is_dir, mark_of, mark_at}
 use Rattle.file_tree.specs.declared.nodes.Node.{Node}
-use Rattle.file_tree.specs.Tree.{Nodes, FileTree, StandsAt, number_at, plain_node_of, plain_nodes, plain_of, whole}
+use Rattle.file_tree.specs.Tree.{Nodes, FileTree, number_at, plain_node_of, plain_nodes, whole}
 use Rattle.file_tree.proofs.EditLemmas.{parent_ends}
 use Rattle.file_tree.proofs.PathLemmas.{no_name}
 use Rattle.file_tree.proofs.PlainLemmas.{plain_get}
 
 -- ---- the order of the checks
-
-only : (a : Option Refusal) → first_of (a ∷ []) ≡ a
-only None = refl
-only (Some r) = refl
 
 -- the refusal of two checks is that of three
 before_third : (a b c : Option Refusal) (r : Refusal) → first_of (a ∷ b ∷ []) ≡ Some r → first_of (a ∷ b ∷ c ∷ []) ≡ Some r
@@ -40,9 +35,13 @@ not_root up name = ap (λ b. refuse_if b refusals.Root) (some_names (length (up 
     some_names : (n : ℕ) → 1 ≤ n → (n == 0) ≡ false
     some_names n some = grind (arith, nat_tests)
 
+-- what is left to check of a rename once nothing stands where it leads
+abbrev pub free_left : plain.Nodes → Path → Path → List (Option Refusal)
+free_left nodes from to = refuse_if (is_below from to) refusals.Inside ∷ read_only nodes (parent_of from) ∷ read_only nodes (parent_of to) ∷ []
+
 -- what is left to check of a rename once both nodes are found
 abbrev pub move_left : plain.Nodes → Path → Path → Option Refusal
-move_left nodes from to = cond (same_path from to) None (first_of (exists_at nodes to ∷ refuse_if (is_below from to) refusals.Inside ∷ []))
+move_left nodes from to = cond (same_path from to) None (first_of (exists_at nodes to ∷ free_left nodes from to))
 
 rename_left : (nodes : plain.Nodes) (from to up : Path) (name : Name) → bad_name to ≡ None → at_root from ≡ None → to ≡ up ++ name ∷ [] → rename_refusal nodes from to ≡ first_of (no_node nodes from ∷ no_dir nodes up ∷ move_left nodes from to ∷ [])
 rename_left nodes from to up name good some is =
@@ -66,22 +65,22 @@ stands_or_not t path o is = ap is_some (plain_get whole t.nodes path) ∙ by (fi
     by (Some node) = refl
 
 -- the checks of what stands where a new node is to stand
-pub taken : (t : FileTree) (path : Path) (o : Option ℕ) (later : Option Refusal) → number_at t.nodes path ≡ o → is_some o ≡ true → first_of (exists_at (plain_nodes whole t.nodes) path ∷ later ∷ []) ≡ Some refusals.Exists
-taken t path o later is some = ap (λ b. first_of (refuse_if b refusals.Exists ∷ later ∷ [])) (stands_or_not t path o is ∙ some)
+pub taken : (t : FileTree) (path : Path) (o : Option ℕ) (later : List (Option Refusal)) → number_at t.nodes path ≡ o → is_some o ≡ true → first_of (exists_at (plain_nodes whole t.nodes) path ∷ later) ≡ Some refusals.Exists
+taken t path o later is some = ap (λ b. first_of (refuse_if b refusals.Exists ∷ later)) (stands_or_not t path o is ∙ some)
 
 -- where nothing stands at a path, it is not refused as taken
-pub not_taken : (t : FileTree) (path : Path) (o : Option ℕ) (later : Option Refusal) → number_at t.nodes path ≡ o → is_some o ≡ false → first_of (exists_at (plain_nodes whole t.nodes) path ∷ later ∷ []) ≡ later
-not_taken t path o later is none = ap (λ b. first_of (refuse_if b refusals.Exists ∷ later ∷ [])) (stands_or_not t path o is ∙ none) ∙ only later
+pub not_taken : (t : FileTree) (path : Path) (o : Option ℕ) (later : List (Option Refusal)) → number_at t.nodes path ≡ o → is_some o ≡ false → first_of (exists_at (plain_nodes whole t.nodes) path ∷ later) ≡ first_of later
+not_taken t path o later is none = ap (λ b. first_of (refuse_if b refusals.Exists ∷ later)) (stands_or_not t path o is ∙ none)
 
 -- the same of a rename
 pub moved_taken : (t : FileTree) (from to : Path) (o : Option ℕ) → same_path from to ≡ false → number_at t.nodes to ≡ o → is_some o ≡ true → move_left (plain_nodes whole t.nodes) from to ≡ Some refusals.Exists
 moved_taken t from to o other is some =
-    ap (λ b. cond b None (first_of (exists_at (plain_nodes whole t.nodes) to ∷ refuse_if (is_below from to) refusals.Inside ∷ []))) other ∙ taken t to o (refuse_if (is_below from to) refusals.Inside) is some
+    ap (λ b. cond b None (first_of (exists_at (plain_nodes whole t.nodes) to ∷ free_left (plain_nodes whole t.nodes) from to))) other ∙ taken t to o (free_left (plain_nodes whole t.nodes) from to) is some
 
--- a rename to a free path is refused only where it goes into itself
-pub moved_freely : (t : FileTree) (from to : Path) (o : Option ℕ) → same_path from to ≡ false → number_at t.nodes to ≡ o → is_some o ≡ false → move_left (plain_nodes whole t.nodes) from to ≡ refuse_if (is_below from to) refusals.Inside
+-- a rename to a free path is refused only where it goes into itself, or a directory is read-only
+pub moved_freely : (t : FileTree) (from to : Path) (o : Option ℕ) → same_path from to ≡ false → number_at t.nodes to ≡ o → is_some o ≡ false → move_left (plain_nodes whole t.nodes) from to ≡ first_of (free_left (plain_nodes whole t.nodes) from to)
 moved_freely t from to o other is none =
-    ap (λ b. cond b None (first_of (exists_at (plain_nodes whole t.nodes) to ∷ refuse_if (is_below from to) refusals.Inside ∷ []))) other ∙ not_taken t to o (refuse_if (is_below from to) refusals.Inside) is none
+    ap (λ b. cond b None (first_of (exists_at (plain_nodes whole t.nodes) to ∷ free_left (plain_nodes whole t.nodes) from to))) other ∙ not_taken t to o (free_left (plain_nodes whole t.nodes) from to) is none
 
 -- where no number stands at a path, nothing stands there
 pub none_at : (m : Nodes) (path : Path) → number_at m path ≡ None → fin.get m path ≡ None

@@ -7,17 +7,18 @@ use Rattle.plain_tree.specs.declared.nodes.Kind as plain_kind
 use Rattle.plain_tree.specs.declared.nodes.Kind.TheVariants as plain_kinds
 use Rattle.plain_tree.specs.declared.calls.Call.{Call}
 use Rattle.plain_tree.specs.declared.calls.Call.TheVariants as asks
+use Rattle.plain_tree.specs.declared.calls.LockState.{LockState}
 use Rattle.plain_tree.specs.declared.calls.Sort.{Sort}
 use Rattle.plain_tree.specs.declared.calls.Sort.TheVariants as sorts
 use Rattle.tape_types.specs.NodeKeys.Keys.{key_cmp}
 use Rattle.plain_tree.specs.Paths.{parent_of}
-use Rattle.plain_tree.specs.Refusals.{refusal_of, new_refusal, bad_name}
+use Rattle.plain_tree.specs.Refusals.{refusal_of, refusal_within, new_refusal, bad_name}
 use Rattle.plain_tree.specs.Calls.{after, after_done, after_unless, with_new}
 use Rattle.plain_tree.specs.Tree as plain
 use Rattle.plain_tree.specs.Valid.{IsValid}
 use Rattle.plain_tree.specs.Seen.{CanStand}
 use Rattle.plain_tree.proofs.SeenLemmas.{unlike}
-use Rattle.plain_tree.proofs.Validity.{next_valid, can_stand, first_none}
+use Rattle.plain_tree.proofs.Validity.{next_valid, can_stand, first_none, free_within}
 use Rattle.extent_map.specs.Cells.{Tape, file_cells}
 use Rattle.std.specs.Str.{IsUtf8}
 use Rattle.index_model.specs.Names.{IsVolumeName, IsNodeName}
@@ -48,17 +49,20 @@ after_free t call at free = ap (λ r. after_unless r (after_done t call at) t) f
 pub free_too : (tape : Tape) (t : FileTree) (call : Call) → ((path : List (List ℕ)) (offset count : ℕ) → call ≡ asks.Read path offset count → ⊥) → refusal_of (plain_of whole t) call ≡ None → refusal_of (plain_of tape t) call ≡ None
 free_too tape t call other free = alike tape whole t call other ∙ free
 
--- trees with the same highest uid and the same nodes are one
-pub same_tree : (a b : plain.Tree) → a.highest ≡ b.highest → a.nodes ≡ b.nodes → a ≡ b
-same_tree a b h n = ap (λ k. record { highest = k; nodes = a.nodes }) h ∙ ap (λ k. record { highest = b.highest; nodes = k }) n
+-- trees with the same highest uid, the same lock and the same nodes are one
+pub same_tree : (a b : plain.Tree) → a.highest ≡ b.highest → a.lock ≡ b.lock → a.nodes ≡ b.nodes → a ≡ b
+same_tree a b h l n =
+    ap (λ k. record { highest = k; lock = a.lock; nodes = a.nodes }) h
+    ∙ ap (λ k. record { highest = b.highest; lock = k; nodes = a.nodes }) l
+    ∙ ap (λ k. record { highest = b.highest; lock = b.lock; nodes = k }) n
 
--- a tree that is what the plain tree is after a call is good
-pub good_after : (t next : FileTree) (call : Call) (at : Moment) → IsGood t → next.block_size ≡ t.block_size → next.name ≡ t.name → IsAfter call at t next
+-- a tree whose plain tree is valid, whose nodes are well and which adds no block to a good one is good
+pub good_where : (t next : FileTree) → IsGood t → next.block_size ≡ t.block_size → next.name ≡ t.name → ((tape : Tape) → IsValid (plain_of tape next))
     → AreFilesOf t.block_size next.nodes → NumbersDiffer next.nodes → AreFit next.nodes → AddsNoBlock t next → IsGood next
-good_after t next call at good size name done files differ fit adds = record {
+good_where t next good size name valid files differ fit adds = record {
   some_block = subst (λ n. 1 ≤ n) (sym size) good.some_block;
   small_block = subst (λ n. n < 2 ^ 32) (sym size) good.small_block;
-  valid = λ tape. subst (λ (p : plain.Tree). IsValid p) (sym (done tape)) (next_valid (plain_of tape t) call at (good.valid tape));
+  valid = valid;
   files = subst (λ n. AreFilesOf n next.nodes) (sym size) files;
   differ = differ;
   volume = subst IsVolumeName (sym name) good.volume;
@@ -66,9 +70,18 @@ good_after t next call at good size name done files differ fit adds = record {
   near = λ part pos h. good.near part pos (adds part pos h);
 }
 
+-- what the plain tree is after a call is valid
+pub valid_after : (t next : FileTree) (call : Call) (at : Moment) → IsGood t → IsAfter call at t next → (tape : Tape) → IsValid (plain_of tape next)
+valid_after t next call at good done tape = subst (λ (p : plain.Tree). IsValid p) (sym (done tape)) (next_valid (plain_of tape t) call at (good.valid tape))
+
+-- a tree that is what the plain tree is after a call is good
+pub good_after : (t next : FileTree) (call : Call) (at : Moment) → IsGood t → next.block_size ≡ t.block_size → next.name ≡ t.name → IsAfter call at t next
+    → AreFilesOf t.block_size next.nodes → NumbersDiffer next.nodes → AreFit next.nodes → AddsNoBlock t next → IsGood next
+good_after t next call at good size name done files differ fit adds = good_where t next good size name (valid_after t next call at good done) files differ fit adds
+
 -- the same tree with other memory is good
-pub good_same : (t : FileTree) (nodes : Nodes) (spare : ℕ) → IsGood t → nodes ≡ t.nodes → IsGood (record { highest = t.highest; name = t.name; block_size = t.block_size; nodes = nodes; spare = spare })
-good_same t nodes spare good is = subst (λ (m : Nodes). IsGood (record { highest = t.highest; name = t.name; block_size = t.block_size; nodes = m; spare = spare })) (sym is) (record {
+pub good_same : (t : FileTree) (nodes : Nodes) (spare : ℕ) → IsGood t → nodes ≡ t.nodes → IsGood (record { highest = t.highest; lock = t.lock; name = t.name; block_size = t.block_size; nodes = nodes; spare = spare })
+good_same t nodes spare good is = subst (λ (m : Nodes). IsGood (record { highest = t.highest; lock = t.lock; name = t.name; block_size = t.block_size; nodes = m; spare = spare })) (sym is) (record {
   some_block = good.some_block;
   small_block = good.small_block;
   valid = good.valid;
@@ -79,6 +92,19 @@ good_same t nodes spare good is = subst (λ (m : Nodes). IsGood (record { highes
   near = λ part pos h. good.near part pos (record { number = h.number; laid = h.laid; file = h.file; block = h.block });
 })
 
+-- and so is the same tree under another lock
+pub good_locked : (t : FileTree) (state : LockState) → IsGood t → IsGood (record t { lock = state })
+good_locked t state good = record {
+  some_block = good.some_block;
+  small_block = good.small_block;
+  valid = good.valid;
+  files = good.files;
+  differ = good.differ;
+  volume = good.volume;
+  fit = good.fit;
+  near = λ part pos h. good.near part pos (record { number = h.number; laid = h.laid; file = h.file; block = h.block });
+}
+
 -- ---- a new node
 
 abbrev plain_new : Sort → plain_kind.Kind
@@ -87,13 +113,13 @@ plain_new sorts.File = plain_kinds.File []
 plain_new sorts.Link = plain_kinds.Dir
 
 made_by : (sort : Sort) (q : List (List ℕ)) (call : Call) (p : plain.Tree) (at : Moment) → making sort q ≡ Some call
-    → (refusal_of p call ≡ new_refusal p q) × (after_done p call at ≡ with_new (plain_new sort) p q at) × ((path : List (List ℕ)) (offset count : ℕ) → call ≡ asks.Read path offset count → ⊥)
+    → (refusal_within p call ≡ new_refusal p q) × (after_done p call at ≡ with_new (plain_new sort) p q at) × ((path : List (List ℕ)) (offset count : ℕ) → call ≡ asks.Read path offset count → ⊥)
 made_by sorts.Dir q call p at is =
     let e : asks.Mkdir q ≡ call = some_same (asks.Mkdir q) call is in
-    (ap (refusal_of p) (sym e), ap (λ c. after_done p c at) (sym e), λ path o n f. let wrong : asks.Mkdir q ≡ asks.Read path o n = e ∙ f in cc)
+    (ap (refusal_within p) (sym e), ap (λ c. after_done p c at) (sym e), λ path o n f. let wrong : asks.Mkdir q ≡ asks.Read path o n = e ∙ f in cc)
 made_by sorts.File q call p at is =
     let e : asks.Create q ≡ call = some_same (asks.Create q) call is in
-    (ap (refusal_of p) (sym e), ap (λ c. after_done p c at) (sym e), λ path o n f. let wrong : asks.Create q ≡ asks.Read path o n = e ∙ f in cc)
+    (ap (refusal_within p) (sym e), ap (λ c. after_done p c at) (sym e), λ path o n f. let wrong : asks.Create q ≡ asks.Read path o n = e ∙ f in cc)
 made_by sorts.Link q call p at is = cc
 
 new_plain : (tape : Tape) (size : ℕ) (sort : Sort) (kind : HeldKind) → IsNewKind size sort kind → plain_kind_of tape kind ≡ plain_new sort
@@ -106,7 +132,7 @@ module _ (t : FileTree) (good : IsGood t) (dir : ℕ) (name : List ℕ) (sort : 
   q = can.path ++ name ∷ []
 
   stand : CanStand (plain_nodes whole t.nodes) q (plain.new_node plain_kinds.Dir (t.highest + 1) at)
-  stand = can_stand plain_kinds.Dir (plain_of whole t) q at (sym (made_by sort q can.call (plain_of whole t) at can.made_by).0 ∙ can.free) (good.valid whole)
+  stand = can_stand plain_kinds.Dir (plain_of whole t) q at (sym (made_by sort q can.call (plain_of whole t) at can.made_by).0 ∙ (free_within (plain_of whole t) can.call can.free).1) (good.valid whole)
 
   -- nothing stands at the path of a new node
   pub make_free : fin.get t.nodes q ≡ None
@@ -120,12 +146,12 @@ module _ (t : FileTree) (good : IsGood t) (dir : ℕ) (name : List ℕ) (sort : 
   can_put slots = record { path = can.path; stands = can.stands; free = make_free; space = make_space; room = can.room }
 
   pub make_named : IsUtf8 name → IsNodeName name
-  make_named utf8 = fit_name name utf8 (not_bad can.path name (first_none (bad_name q) _ (sym (made_by sort q can.call (plain_of whole t) at can.made_by).0 ∙ can.free)).0)
+  make_named utf8 = fit_name name utf8 (not_bad can.path name (first_none (bad_name q) _ (sym (made_by sort q can.call (plain_of whole t) at can.made_by).0 ∙ (free_within (plain_of whole t) can.call can.free).1)).0)
 
   module _ (next : FileTree) (number : ℕ) (node : Node) (kind : HeldKind) (middle : Nodes)
       (is : node ≡ record (made_node (t.highest + 1) kind at) { number = number }) (new : IsNewKind t.block_size sort kind)
       (put : (path : List (List ℕ)) → number_at t.nodes path ≡ Some dir → middle ≡ fin.insert t.nodes (path ++ name ∷ []) node)
-      (ch : IsChangedAt middle next.nodes dir (λ a b. b ≡ touched at a)) (highest : next.highest ≡ t.highest + 1) (size : next.block_size ≡ t.block_size)
+      (ch : IsChangedAt middle next.nodes dir (λ a b. b ≡ touched at a)) (highest : next.highest ≡ t.highest + 1) (state : next.lock ≡ t.lock) (size : next.block_size ≡ t.block_size)
       (fresh : (path : Path) → number_at t.nodes path ≢ Some number) where
     middle_is : middle ≡ fin.insert t.nodes q node
     middle_is = put can.path can.stands
@@ -143,7 +169,7 @@ module _ (t : FileTree) (good : IsGood t) (dir : ℕ) (name : List ℕ) (sort : 
         ∙ ap (λ p. plain.touch at p (plain_nodes tape middle)) (sym (ch.only can.path dir_middle) ∙ sym (parent_ends can.path name))
         ∙ ap (λ m. plain.touch at (parent_of q) (plain_nodes tape m)) middle_is
         ∙ ap (plain.touch at (parent_of q)) (plain_insert tape t.nodes q node ∙ ap (fin.insert (plain_nodes tape t.nodes) q) made) in
-        same_tree (plain_of tape next) (with_new (plain_new sort) (plain_of tape t) q at) highest nodes
+        same_tree (plain_of tape next) (with_new (plain_new sort) (plain_of tape t) q at) highest state nodes
         ∙ sym (after_free (plain_of tape t) can.call at (free_too tape t can.call by.2 can.free) ∙ by.1)
 
     -- all numbers stand where they stood after a node is made

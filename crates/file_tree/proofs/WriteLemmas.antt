@@ -23,6 +23,7 @@ use Rattle.file_tree.specs.declared.nodes.Node.{Node}
 use Rattle.file_tree.specs.declared.nodes.HeldKind.{HeldKind}
 use Rattle.file_tree.specs.declared.nodes.HeldKind.TheVariants as kinds
 use Rattle.file_tree.specs.Tree.{Nodes, FileTree, number_at, StandsAt, HasExtents, HasLaid, plain_kind_of, plain_node_of, plain_nodes, plain_of}
+use Rattle.file_tree.specs.declared.changes.NodeRoom.TheVariants as rooms
 use Rattle.file_tree.specs.Changes.{IsChangedAt, LiesNow, IsRelaid, relaid_as, IsRoomier, roomier_as, KeepsLaid, HasRoom, kind_has_room, CanOverlay, can_overlay}
 use Rattle.file_tree.specs.Valid.{IsFileOf, AreFilesOf, NumbersDiffer, AreFit, IsGood}
 use Rattle.file_tree.specs.Blocks.{TreeStandsIn, AddsNoBlock, AddsBlocksOf}
@@ -54,7 +55,7 @@ plain_relaid tape g at before next room laid is done cells_are =
     opened n c e = rw e refl
 
 module _ (t next : FileTree) (good : IsGood t) (file : ℕ) (at : Moment) (room : Room) (h : HasExtents t.nodes file room) (change : Laid → Laid)
-    (ch : IsChangedAt t.nodes next.nodes file (λ a b. IsRelaid change at a b)) (highest : next.highest ≡ t.highest) (size : next.block_size ≡ t.block_size) where
+    (ch : IsChangedAt t.nodes next.nodes file (λ a b. IsRelaid change at a b)) (highest : next.highest ≡ t.highest) (state : next.lock ≡ t.lock) (size : next.block_size ≡ t.block_size) where
   one : h.path ≡ ch.path
   one = ch.only h.path (number_is t.nodes h.path h.node h.there ∙ ap (λ n. Some n) h.is)
 
@@ -111,7 +112,7 @@ module _ (t next : FileTree) (good : IsGood t) (file : ℕ) (at : Moment) (room 
   pub relaid_plain : (tape : Tape) (g : List Cell → List Cell) → file_cells tape (change room.laid) ≡ g (file_cells tape room.laid) → (path : List (List ℕ)) → StandsAt t path file
       → plain_of tape next ≡ record (plain_of tape t) { nodes = plain.changed_at (plain.file_changed g at) path (plain_nodes tape t.nodes) }
   relaid_plain tape g cells_are path stands =
-      same_tree (plain_of tape next) (record (plain_of tape t) { nodes = plain.changed_at (plain.file_changed g at) path (plain_nodes tape t.nodes) }) highest
+      same_tree (plain_of tape next) (record (plain_of tape t) { nodes = plain.changed_at (plain.file_changed g at) path (plain_nodes tape t.nodes) }) highest state
       (change_plain t.nodes next.nodes file (λ a b. IsRelaid change at a b) ch tape (plain.file_changed g at) (plain_relaid tape g at ch.old ch.new room (change room.laid) kind_is done cells_are)
       ∙ ap (λ p. plain.changed_at (plain.file_changed g at) p (plain_nodes tape t.nodes)) (sym (ch.only path stands)))
 
@@ -132,26 +133,26 @@ module _ (t next : FileTree) (good : IsGood t) (file : ℕ) (at : Moment) (room 
 -- ---- an overlay
 
 module _ (t next : FileTree) (good : IsGood t) (file : ℕ) (at : Moment) (room : Room) (h : HasExtents t.nodes file room) (new : Extent)
-    (ch : IsChangedAt t.nodes next.nodes file (λ a b. IsRelaid (λ laid. overlaid laid new) at a b)) (highest : next.highest ≡ t.highest) (size : next.block_size ≡ t.block_size) where
+    (ch : IsChangedAt t.nodes next.nodes file (λ a b. IsRelaid (λ laid. overlaid laid new) at a b)) (highest : next.highest ≡ t.highest) (state : next.lock ≡ t.lock) (size : next.block_size ≡ t.block_size) where
   was : IsFileOf t.block_size room.laid
-  was = was_file t next good file at room h (λ laid. overlaid laid new) ch highest size
+  was = was_file t next good file at room h (λ laid. overlaid laid new) ch highest state size
 
   written : (tape : Tape) → file_cells tape (overlaid room.laid new) ≡ cells.written (file_cells tape room.laid) new.offset (cells_of tape t.block_size new)
   written tape = overlays_write tape room.laid new was.lies ∙ ap (λ n. cells.written (file_cells tape room.laid) new.offset (cells_of tape n new)) was.size
 
   -- an overlay writes the new extent's bytes into the file
   pub overlay_writes : IsWritten file new at t next
-  overlay_writes tape path stands = relaid_plain t next good file at room h (λ laid. overlaid laid new) ch highest size tape (λ c. cells.written c new.offset (cells_of tape t.block_size new)) (written tape) path stands
+  overlay_writes tape path stands = relaid_plain t next good file at room h (λ laid. overlaid laid new) ch highest state size tape (λ c. cells.written c new.offset (cells_of tape t.block_size new)) (written tape) path stands
 
   -- an overlay adds only the new extent's blocks
   pub overlay_adds : AddsBlocksOf new t next
-  overlay_adds = adds_overlay t next file room.laid new (relaid_differ t next good file at room h (λ laid. overlaid laid new) ch highest size) (relaid_others t next good file at room h (λ laid. overlaid laid new) ch highest size)
-      (was_laid t next good file at room h (λ laid. overlaid laid new) ch highest size) was.lies was.size
-      (relaid_lies t next good file at room h (λ laid. overlaid laid new) ch highest size room.laid (was_laid t next good file at room h (λ laid. overlaid laid new) ch highest size))
+  overlay_adds = adds_overlay t next file room.laid new (relaid_differ t next good file at room h (λ laid. overlaid laid new) ch highest state size) (relaid_others t next good file at room h (λ laid. overlaid laid new) ch highest state size)
+      (was_laid t next good file at room h (λ laid. overlaid laid new) ch highest state size) was.lies was.size
+      (relaid_lies t next good file at room h (λ laid. overlaid laid new) ch highest state size room.laid (was_laid t next good file at room h (λ laid. overlaid laid new) ch highest state size))
 
   -- an overlay leaves a good tree good
   pub overlay_good : next.name ≡ t.name → IsNear t.block_size new → IsGood next
-  overlay_good name near = relaid_good t next good file at room h (λ laid. overlaid laid new) ch highest size (λ tape. (λ c. cells.written c new.offset (cells_of tape t.block_size new), written tape)) was.size name
+  overlay_good name near = relaid_good t next good file at room h (λ laid. overlaid laid new) ch highest state size (λ tape. (λ c. cells.written c new.offset (cells_of tape t.block_size new), written tape)) was.size name
       (λ part pos k. ⊎_elim (λ old. good.near part pos old) (λ this. near part pos this) (overlay_adds part pos k))
 
 -- ---- a length
@@ -176,9 +177,9 @@ same_length t file n at long tape path stands =
     eq_true a b e = grind (arith, nat_tests)
 
 module _ (t next : FileTree) (good : IsGood t) (file : ℕ) (at : Moment) (room : Room) (h : HasExtents t.nodes file room) (n : ℕ)
-    (ch : IsChangedAt t.nodes next.nodes file (λ a b. IsRelaid (λ laid. resized laid n) at a b)) (highest : next.highest ≡ t.highest) (size : next.block_size ≡ t.block_size) where
+    (ch : IsChangedAt t.nodes next.nodes file (λ a b. IsRelaid (λ laid. resized laid n) at a b)) (highest : next.highest ≡ t.highest) (state : next.lock ≡ t.lock) (size : next.block_size ≡ t.block_size) where
   before_file : IsFileOf t.block_size room.laid
-  before_file = was_file t next good file at room h (λ laid. resized laid n) ch highest size
+  before_file = was_file t next good file at room h (λ laid. resized laid n) ch highest state size
 
   truncated : (tape : Tape) → file_cells tape (resized room.laid n) ≡ cells.resized (file_cells tape room.laid) n
   truncated tape = lengths_truncate tape room.laid n before_file.lies
@@ -186,7 +187,7 @@ module _ (t next : FileTree) (good : IsGood t) (file : ℕ) (at : Moment) (room 
   -- a new length truncates the file
   pub length_truncates : (present : ℕ) → ((path : List (List ℕ)) → StandsAt t path file → IsLongAt t.nodes path present) → n ≢ present → IsTruncated file n at t next
   length_truncates present long differ tape path stands =
-      relaid_plain t next good file at room h (λ laid. resized laid n) ch highest size tape (λ c. cells.resized c n) (truncated tape) path stands
+      relaid_plain t next good file at room h (λ laid. resized laid n) ch highest state size tape (λ c. cells.resized c n) (truncated tape) path stands
       ∙ sym (ap (λ b. cond b (plain_of tape t) (record (plain_of tape t) { nodes = plain.changed_at (plain.file_changed (λ c. cells.resized c n) at) path (plain_nodes tape t.nodes) }))
       (eq_false n (length (plain.cells_at (plain_nodes tape t.nodes) path)) (λ e. differ (e ∙ at_path tape t.nodes path present (long path stands)))))
     where
@@ -195,13 +196,13 @@ module _ (t next : FileTree) (good : IsGood t) (file : ℕ) (at : Moment) (room 
 
   -- a new length adds no block
   pub length_adds : AddsNoBlock t next
-  length_adds = adds_length t next file n room.laid (relaid_differ t next good file at room h (λ laid. resized laid n) ch highest size) (relaid_others t next good file at room h (λ laid. resized laid n) ch highest size)
-      (was_laid t next good file at room h (λ laid. resized laid n) ch highest size)
-      (relaid_lies t next good file at room h (λ laid. resized laid n) ch highest size room.laid (was_laid t next good file at room h (λ laid. resized laid n) ch highest size))
+  length_adds = adds_length t next file n room.laid (relaid_differ t next good file at room h (λ laid. resized laid n) ch highest state size) (relaid_others t next good file at room h (λ laid. resized laid n) ch highest state size)
+      (was_laid t next good file at room h (λ laid. resized laid n) ch highest state size)
+      (relaid_lies t next good file at room h (λ laid. resized laid n) ch highest state size room.laid (was_laid t next good file at room h (λ laid. resized laid n) ch highest state size))
 
   -- a new length leaves a good tree good
   pub length_good : next.name ≡ t.name → IsGood next
-  length_good name = relaid_good t next good file at room h (λ laid. resized laid n) ch highest size (λ tape. (λ c. cells.resized c n, truncated tape)) before_file.size name (λ part pos k. good.near part pos (length_adds part pos k))
+  length_good name = relaid_good t next good file at room h (λ laid. resized laid n) ch highest state size (λ tape. (λ c. cells.resized c n, truncated tape)) before_file.size name (λ part pos k. good.near part pos (length_adds part pos k))
 
 -- what a file's new extents are, where its length is another
 pub resized_lies : (m : Nodes) (file n present : ℕ) (laid f : Laid) → HasLaid m file f → n ≢ present → laid.length ≡ present → f ≡ resized laid n → HasLaid m file (cond (eqb n laid.length) laid (resized laid n))
@@ -221,10 +222,10 @@ long_is m file present laid has long =
 
 -- ---- room for one more extent
 
-roomier_plain : (tape : Tape) (a b : Node) → IsRoomier a b → plain_node_of tape b ≡ plain_node_of tape a
+roomier_plain : (tape : Tape) (a b : Node) → IsRoomier rooms.Extent a b → plain_node_of tape b ≡ plain_node_of tape a
 roomier_plain tape a b is = by a.kind refl (is)
   where
-    by : (k : HeldKind) → a.kind ≡ k → IsRoomier a b → plain_node_of tape b ≡ plain_node_of tape a
+    by : (k : HeldKind) → a.kind ≡ k → IsRoomier rooms.Extent a b → plain_node_of tape b ≡ plain_node_of tape a
     by kinds.Dir e r = ap (plain_node_of tape) (subst (roomier_as a b) e r)
     by (kinds.Link text) e r = ap (plain_node_of tape) (subst (roomier_as a b) e r)
     by (kinds.File room) e r =
@@ -232,14 +233,14 @@ roomier_plain tape a b is = by a.kind refl (is)
         ap (plain_node_of tape) keeps.is ∙ ap (λ (f : Laid). record { uid = a.uid; times = a.times; readonly = a.readonly; keys = a.keys.map; kind = plain_kinds.File (file_cells tape f) }) keeps.lies
         ∙ ap (λ k. record { uid = a.uid; times = a.times; readonly = a.readonly; keys = a.keys.map; kind = k }) (sym (ap (plain_kind_of tape) e))
 
-module _ (t next : FileTree) (good : IsGood t) (file : ℕ) (Q : Node → Type 0) (ch : IsChangedAt t.nodes next.nodes file (λ a b. IsRoomier a b × Q b)) (highest : next.highest ≡ t.highest) (size : next.block_size ≡ t.block_size) where
+module _ (t next : FileTree) (good : IsGood t) (file : ℕ) (Q : Node → Type 0) (ch : IsChangedAt t.nodes next.nodes file (λ a b. IsRoomier rooms.Extent a b × Q b)) (highest : next.highest ≡ t.highest) (state : next.lock ≡ t.lock) (size : next.block_size ≡ t.block_size) where
   same_nodes_plain : (tape : Tape) → plain_nodes tape next.nodes ≡ plain_nodes tape t.nodes
   same_nodes_plain tape = ap (plain_nodes tape) ch.now ∙ plain_insert tape t.nodes ch.path ch.new ∙ ap (fin.insert (plain_nodes tape t.nodes) ch.path) (roomier_plain tape ch.old ch.new ch.changed.0)
       ∙ inserted_same (plain_nodes tape t.nodes) ch.path (plain_node_of tape ch.old) (plain_get tape t.nodes ch.path ∙ ap (option_map (plain_node_of tape)) ch.there)
 
   -- memory for more of a node leaves the plain tree as it was
   pub room_plain : (tape : Tape) → plain_of tape next ≡ plain_of tape t
-  room_plain tape = same_tree (plain_of tape next) (plain_of tape t) highest (same_nodes_plain tape)
+  room_plain tape = same_tree (plain_of tape next) (plain_of tape t) highest state (same_nodes_plain tape)
 
   -- memory for more of a node leaves the numbers where they stood
   pub room_numbers : (path : List (List ℕ)) (n : ℕ) → StandsAt t path n → StandsAt next path n
@@ -249,7 +250,7 @@ module _ (t next : FileTree) (good : IsGood t) (file : ℕ) (Q : Node → Type 0
   was_laid_so : (room : Room) → ch.new.kind ≡ kinds.File room → (old : Room) × (ch.old.kind ≡ kinds.File old) × (room.laid ≡ old.laid)
   was_laid_so room is = by ch.old.kind refl ch.changed.0
     where
-      by : (k : HeldKind) → ch.old.kind ≡ k → IsRoomier ch.old ch.new → (old : Room) × (ch.old.kind ≡ kinds.File old) × (room.laid ≡ old.laid)
+      by : (k : HeldKind) → ch.old.kind ≡ k → IsRoomier rooms.Extent ch.old ch.new → (old : Room) × (ch.old.kind ≡ kinds.File old) × (room.laid ≡ old.laid)
       by kinds.Dir e r = let wrong : kinds.Dir ≡ kinds.File room = sym e ∙ ap (λ (n : Node). n.kind) (sym (subst (roomier_as ch.old ch.new) e r)) ∙ is in cc
       by (kinds.Link text) e r = let wrong : kinds.Link text ≡ kinds.File room = sym e ∙ ap (λ (n : Node). n.kind) (sym (subst (roomier_as ch.old ch.new) e r)) ∙ is in cc
       by (kinds.File old) e r =
@@ -319,14 +320,14 @@ module _ (t next : FileTree) (good : IsGood t) (file : ℕ) (Q : Node → Type 0
   was_link : (text : List ℕ) → ch.new.kind ≡ kinds.Link text → ch.old.kind ≡ kinds.Link text
   was_link text is = by ch.old.kind refl ch.changed.0
     where
-      by : (k : HeldKind) → ch.old.kind ≡ k → IsRoomier ch.old ch.new → ch.old.kind ≡ kinds.Link text
+      by : (k : HeldKind) → ch.old.kind ≡ k → IsRoomier rooms.Extent ch.old ch.new → ch.old.kind ≡ kinds.Link text
       by kinds.Dir e r = ap (λ (n : Node). n.kind) (sym (subst (roomier_as ch.old ch.new) e r)) ∙ is
       by (kinds.Link text) e r = ap (λ (n : Node). n.kind) (sym (subst (roomier_as ch.old ch.new) e r)) ∙ is
       by (kinds.File old) e r =
           let keeps : KeepsLaid ch.old ch.new old.laid = subst (roomier_as ch.old ch.new) e r in
           let wrong : kinds.File keeps.room ≡ kinds.Link text = sym (ap (λ (n : Node). n.kind) keeps.is) ∙ is in cc
 
-  same_keys : (k : HeldKind) → ch.old.kind ≡ k → IsRoomier ch.old ch.new → ch.new.keys ≡ ch.old.keys
+  same_keys : (k : HeldKind) → ch.old.kind ≡ k → IsRoomier rooms.Extent ch.old ch.new → ch.new.keys ≡ ch.old.keys
   same_keys kinds.Dir e r = ap (λ (n : Node). n.keys) (subst (roomier_as ch.old ch.new) e r)
   same_keys (kinds.Link text) e r = ap (λ (n : Node). n.keys) (subst (roomier_as ch.old ch.new) e r)
   same_keys (kinds.File old) e r =
@@ -351,7 +352,7 @@ module _ (t next : FileTree) (good : IsGood t) (file : ℕ) (Q : Node → Type 0
   }
 
 -- the room that was made is that of the file
-pub made_room : (m next : Nodes) (file : ℕ) (r : Result Unit NoMemory) (ch : IsChangedAt m next file (λ a b. IsRoomier a b × OnOk r (HasRoom b))) → OnOk r ((room : Room) → HasExtents next file room → 2 ≤ room.spare)
+pub made_room : (m next : Nodes) (file : ℕ) (r : Result Unit NoMemory) (ch : IsChangedAt m next file (λ a b. IsRoomier rooms.Extent a b × OnOk r (HasRoom rooms.Extent b))) → OnOk r ((room : Room) → HasExtents next file room → 2 ≤ room.spare)
 made_room m next file (Ok x) ch = λ room h.
     let path_is : h.path ≡ ch.path = ch.only h.path (sym (change_numbers m next file _ ch h.path) ∙ number_is next h.path h.node h.there ∙ ap (λ n. Some n) h.is) in
     let node_is : h.node ≡ ch.new = some_same h.node ch.new (sym h.there ∙ ap (fin.get next) path_is ∙ ap (λ l. fin.get l ch.path) ch.now ∙ get_here m ch.path ch.new) in

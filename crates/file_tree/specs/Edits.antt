@@ -1,5 +1,6 @@
 -- What calls on the tree need, and what they leave.
-use Rattle.std.specs.Prelude.{◌≡◌, ◌≢◌, ◌⊎◌, ◌↔◌, ℕ, ◌≤◌, ◌^◌, List, [], ◌∷◌, ◌++◌, false, Option, Some, None}
+use Rattle.std.specs.Prelude.{◌≡◌, ◌≢◌, ◌⊎◌, ◌↔◌, ℕ, ◌≤◌, ◌^◌, List, [], ◌∷◌, ◌++◌, Bool, false, Option, Some, None}
+use Rattle.std.specs.Option.{option_map}
 use Rattle.std.specs.FinMap as fin
 use Rattle.tape_types.specs.declared.moments.Moment.{Moment}
 use Rattle.tape_types.specs.declared.cartridges.Extent.{Extent}
@@ -19,6 +20,7 @@ use Rattle.extent_map.specs.Blocks.{StandsIn}
 use Rattle.file_tree.specs.declared.nodes.Node.{Node}
 use Rattle.file_tree.specs.declared.nodes.HeldKind.{HeldKind}
 use Rattle.file_tree.specs.declared.nodes.HeldKind.TheVariants as kinds
+use Rattle.file_tree.specs.Blocks.{Ends, AddsNoBlock, LiesBelow}
 use Rattle.file_tree.specs.Changes.{CanOverlay}
 use Rattle.file_tree.specs.Tree.{Nodes, FileTree, StandsAt, HasExtents, HasLaid, plain_of, whole}
 use Rattle.plain_tree.specs.Paths.{Path}
@@ -90,6 +92,32 @@ pub record CanMoveTo (t : FileTree) (number dir : ℕ) (name : List ℕ) : Type 
   pub free : refusal_of (plain_of whole t) (asks.Rename path (up ++ name ∷ [])) ≡ None
   pub apart : path ≢ up ++ name ∷ []
 
+-- there is memory for one more key of the node with this number
+abbrev pub HasKeyRoom : FileTree → ℕ → Type 0
+HasKeyRoom t number = (path : Path) (node : Node) → fin.get t.nodes path ≡ Some node → node.number ≡ number
+    → 1 ≤ node.keys.spare
+
+-- the node with this number can get these other bytes of a key, for which there is memory
+pub record CanSetKey (t : FileTree) (number : ℕ) (key value : List ℕ) : Type 0 where
+  pub path : Path
+  pub stands : StandsAt t path number
+  pub free : refusal_of (plain_of whole t) (asks.Setx path key value) ≡ None
+  pub apart : plain.has_value (plain_of whole t).nodes path key value ≡ false
+  pub room : HasKeyRoom t number
+
+-- the node with this number can lose the key
+pub record CanDropKey (t : FileTree) (number : ℕ) (key : List ℕ) : Type 0 where
+  pub path : Path
+  pub stands : StandsAt t path number
+  pub free : refusal_of (plain_of whole t) (asks.Dropx path key) ≡ None
+
+-- the node with this number can get this other flag
+pub record CanFlag (t : FileTree) (number : ℕ) (on : Bool) : Type 0 where
+  pub path : Path
+  pub stands : StandsAt t path number
+  pub free : refusal_of (plain_of whole t) (asks.Readonly path on) ≡ None
+  pub apart : plain.same_flag (plain.flag_at (plain_of whole t).nodes path) on ≡ false
+
 -- whatever stands on tape, the tree is what the plain tree is after the call
 abbrev pub IsAfter : Call → Moment → FileTree → FileTree → Type 0
 IsAfter call at before next = (tape : Tape) → plain_of tape next ≡ after (plain_of tape before) call at
@@ -130,6 +158,27 @@ OthersLie but before next = (number : ℕ) → number ≢ but → LiesAlike numb
 -- each file lies as it did, and none is gone or new
 abbrev pub AllLie : FileTree → FileTree → Type 0
 AllLie before next = (number : ℕ) → LiesAlike number before next
+
+-- what a node is but for its times, its flag and its attributes
+abbrev pub outline : Node → ℕ × ℕ × HeldKind
+outline node = (node.number, node.uid, node.kind)
+
+-- At each path stands the same node as before, but for its times, its flag and its attributes; no uid is given, and the
+-- volume's name and the bytes of a block stay. So each file lies as it did.
+pub record KeepsOutline (before next : FileTree) : Type 0 where
+  pub highest : next.highest ≡ before.highest
+  pub nodes : (path : Path)
+      → option_map outline (fin.get next.nodes path) ≡ option_map outline (fin.get before.nodes path)
+  pub volume : KeepsVolume before next
+  pub spare : next.spare ≡ before.spare
+
+-- what keeps the outline of a tree keeps its numbers, its files and its blocks where they are
+pub record OutlinesKeepFiles : Type 0 where
+  pub numbers : (before next : FileTree) → KeepsOutline before next → NumbersCome (λ p. p) before next
+  pub files : (before next : FileTree) → KeepsOutline before next → AllLie before next
+  pub blocks : (before next : FileTree) → KeepsOutline before next → AddsNoBlock before next
+  pub below : (ends : Ends) (before next : FileTree) → KeepsOutline before next → LiesBelow ends before
+      → LiesBelow ends next
 
 -- a refusal is that of a tape that has lost nothing, or tells of a lost byte where that tape would refuse nothing
 abbrev pub RefusalsAreAlike : Type 0

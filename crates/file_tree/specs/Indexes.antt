@@ -17,15 +17,17 @@ use Rattle.file_tree.specs.declared.nodes.Node.{Node}
 use Rattle.file_tree.specs.declared.nodes.HeldKind.{HeldKind}
 use Rattle.file_tree.specs.declared.nodes.HeldKind.TheVariants as kinds
 use Rattle.plain_tree.specs.Paths.{Path}
+use Rattle.file_tree.specs.Locks.{told_lock}
 use Rattle.file_tree.specs.Tree.{FileTree, plain_of}
 use Rattle.file_tree.specs.Mounts.{Letters, laid_of, CanMount, IsTreeOf}
 use Rattle.file_tree.specs.Told.{raw_of, told_nodes}
 use Rattle.file_tree.specs.Valid.{IsGood}
 
--- the index has the nodes of the tree, and its highest uid
+-- the index has the nodes of the tree, its highest uid, and the word for its lock
 pub record TellsTree (letters : Letters) (t : FileTree) (index : Index) : Type 0 where
   pub nodes : index.nodes ≡ told_nodes letters t
   pub highest : index.highest ≡ t.highest
+  pub lock : index.lock ≡ told_lock t.lock
 
 -- two letters of partitions
 pub record AreLetters (letters : Letters) : Type 0 where
@@ -41,9 +43,10 @@ without_room (kinds.Link text) = kinds.Link text
 abbrev pub as_told : Node → Node
 as_told node = record node { number = 0; keys = record node.keys { spare = 0 }; kind = without_room node.kind }
 
--- both trees have the same name and blocks, and at each path the same node, but for its number
+-- both trees have the same lock, name and blocks, and at each path the same node, but for its number
 pub record IsSameTree (t other : FileTree) : Type 0 where
   pub highest : other.highest ≡ t.highest
+  pub lock : other.lock ≡ t.lock
   pub name : other.name ≡ t.name
   pub block_size : other.block_size ≡ t.block_size
   pub nodes : (path : Path) → option_map as_told (fin.get other.nodes path) ≡ option_map as_told (fin.get t.nodes path)

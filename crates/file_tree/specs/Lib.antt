@@ -6,6 +6,7 @@ pub mod Checks
 pub mod Edits
 pub mod Indexes
 pub mod Listing
+pub mod Locks
 pub mod Mounts
 pub mod OnVolume
 pub mod Order

@@ -24,6 +24,7 @@ use Rattle.extent_map.specs.Blocks.{StandsIn}
 use Rattle.file_tree.specs.declared.nodes.Node.{Node}
 use Rattle.file_tree.specs.declared.nodes.HeldKind.{HeldKind}
 use Rattle.file_tree.specs.declared.nodes.HeldKind.TheVariants as kinds
+use Rattle.file_tree.specs.Locks.{lock_of}
 use Rattle.file_tree.specs.Tree.{Nodes, FileTree}
 use Rattle.file_tree.specs.Blocks.{Ends, TreeStandsIn, LiesBelow}
 use Rattle.plain_tree.specs.Paths.{Path}
@@ -132,6 +133,7 @@ pub record AreTold (letters : Letters) (size : ℕ) (nodes : List told.Node) : T
 -- the tree is that of the index
 pub record IsTreeOf (letters : Letters) (size : ℕ) (index : Index) (t : FileTree) : Type 0 where
   pub highest : t.highest ≡ index.highest
+  pub lock : t.lock ≡ lock_of index.lock
   pub name : (root : told.Node) → IsAt index.nodes 0 root → t.name ≡ root.name
   pub block_size : t.block_size ≡ size
   pub nodes : IsBuilt letters size index.nodes (length index.nodes) t.nodes

@@ -3,6 +3,7 @@ use Rattle.std.specs.Prelude.{◌≡◌, ℕ, List}
 use Rattle.std.specs.Prelude.{map, Option, Some}
 use Rattle.std.specs.Option.{option_map}
 use Rattle.std.specs.FinMap as fin
+use Rattle.plain_tree.specs.declared.calls.LockState.{LockState}
 use Rattle.plain_tree.specs.declared.nodes.Node as plain_node
 use Rattle.plain_tree.specs.declared.nodes.Kind as plain_kind
 use Rattle.plain_tree.specs.declared.nodes.Kind.TheVariants as plain_kinds
@@ -19,10 +20,11 @@ use Rattle.plain_tree.specs.Paths.{Path}
 abbrev pub Nodes : Type 0
 Nodes = fin.FinMap path_cmp Node
 
--- the highest uid that was ever given, the volume's name, the bytes of a block, what stands at each path, and for how
--- many nodes more there is memory
+-- the highest uid that was ever given, the lock state of the volume, its name, the bytes of a block, what stands at
+-- each path, and for how many nodes more there is memory
 pub record FileTree : Type 0 where
   pub highest : ℕ
+  pub lock : LockState
   pub name : List ℕ
   pub block_size : ℕ
   pub nodes : Nodes
@@ -78,7 +80,7 @@ plain_nodes tape nodes = fin.from_entries (map (λ e. (e.0, plain_node_of tape e
 
 -- the plain tree that it is, given what stands on tape
 abbrev pub plain_of : Tape → FileTree → plain.Tree
-plain_of tape t = record { highest = t.highest; nodes = plain_nodes tape t.nodes }
+plain_of tape t = record { highest = t.highest; lock = t.lock; nodes = plain_nodes tape t.nodes }
 
 -- a tape that has lost nothing
 abbrev pub whole : Tape

@@ -1,8 +1,9 @@
 ghost use Rattle.std.specs.Prelude.{◌≡◌, IfOk};
-ghost use Rattle.file_tree.specs.Carried.{carried_of, index_of};
+ghost use Rattle.file_tree.specs.Carried.{carried_of, index_of, lock_of, told_lock};
 
 use index_model::{Index, Node, Policy, Spot, TextList};
-use ltfs_documents::doc_fields::LockState;
+use ltfs_documents::doc_fields::LockState as ToldState;
+use plain_tree::LockState;
 use std::alloc::Global;
 use tape_types::{List, Moment, NoMemory, Text};
 
@@ -13,7 +14,6 @@ pub struct Carried {
     /// Whether the policy may be changed.
     pub allow: bool,
     pub policy: Option<Policy>,
-    pub lock: Option<LockState>,
 }
 
 /// What an index tells of itself: who wrote it, of which volume, when, and where it stands.
@@ -38,19 +38,19 @@ impl Carried {
             comment,
             allow: index.allow,
             policy,
-            lock: index.lock,
         })
     }
 
-    /// The index with this heading, these facts and these nodes.
+    /// The index with this heading, these facts, this lock state and these nodes.
     pub fn to_index(
         &self,
         alloc: Global,
         heading: Heading,
+        lock: LockState,
         highest: u64,
         nodes: List<Node>,
     ) -> Result<Index, NoMemory>
-        ensures { IfOk result (λ index. index ≡ index_of heading self.now highest nodes) }
+        ensures { IfOk result (λ index. index ≡ index_of heading self.now lock highest nodes) }
     {
         let comment = text_copy(alloc, &self.comment)?;
         let policy = policy_copy(alloc, &self.policy)?;
@@ -64,10 +64,34 @@ impl Carried {
             back: heading.back,
             allow: self.allow,
             policy,
-            lock: self.lock,
+            lock: told_lock(lock),
             highest,
             nodes,
         })
+    }
+}
+
+/// The lock state that an index tells.
+pub fn lock_of(told: Option<ToldState>) -> LockState
+    ensures { result ≡ lock_of told }
+{
+    match told {
+        None => LockState::Absent,
+        Some(ToldState::Unlocked) => LockState::Unlocked,
+        Some(ToldState::Locked) => LockState::Locked,
+        Some(ToldState::PermLocked) => LockState::PermLocked,
+    }
+}
+
+/// What an index tells of a lock state.
+pub fn told_lock(state: LockState) -> Option<ToldState>
+    ensures { result ≡ told_lock state }
+{
+    match state {
+        LockState::Absent => None,
+        LockState::Unlocked => Some(ToldState::Unlocked),
+        LockState::Locked => Some(ToldState::Locked),
+        LockState::PermLocked => Some(ToldState::PermLocked),
     }
 }
 

@@ -1,10 +1,10 @@
-ghost use Rattle.std.specs.Prelude.{◌≡◌, ◌+◌, ◌++◌, [], ◌∷◌, IfOk, Ok, Err, None, if◌then◌else◌};
+ghost use Rattle.std.specs.Prelude.{◌≡◌, ◌+◌, ◌++◌, ℕ, List, [], ◌∷◌, IfOk, Ok, Err, None, if◌then◌else◌};
 ghost use Rattle.plain_tree.specs.Paths as paths;
 ghost use Rattle.plain_tree.specs.Paths.{Path};
 ghost use Rattle.plain_tree.specs.Refusals.{bad_name as why_bad_name, no_node as why_no_node, no_dir as why_no_dir};
 ghost use Rattle.plain_tree.specs.Refusals.{no_file as why_no_file, exists_at, not_empty, first_of, refuse_if};
 ghost use Rattle.plain_tree.specs.Refusals.{too_many, too_long as why_too_long, new_refusal as why_not_new};
-ghost use Rattle.plain_tree.specs.Refusals.{refusal_of};
+ghost use Rattle.plain_tree.specs.Refusals.{many_keys as why_many_keys, read_only, refusal_within};
 ghost use Rattle.plain_tree.specs.declared.calls.Call.TheVariants as asks;
 ghost use Rattle.file_tree.specs.Tree.{StandsAt, plain_of, whole};
 ghost use Rattle.file_tree.specs.Places.{IsThere};
@@ -12,8 +12,9 @@ ghost use Rattle.file_tree.specs.Checks.{AreChecked, IsChecked, IsMove};
 
 use crate::found::Found;
 use crate::tree::Tree;
-use plain_tree::{Refusal, Sort};
+use plain_tree::{MOST_KEYS, Refusal, Sort};
 use std::alloc::Global;
+use tape_types::node_keys::is_key;
 use tape_types::{LONGEST_FILE, MOST_NODES, NameErr, NoMemory, Text, check_name};
 
 /// What a rename moves, where the tree doesn't refuse it.
@@ -42,7 +43,7 @@ fn bad_name(alloc: Global, path: &[Text]) -> Result<Option<Refusal>, NoMemory>
 }
 
 /// The node at a path, or why nothing stands there.
-fn node_at(tree: &Tree, path: &[Text]) -> Result<u32, Refusal>
+pub fn node_at(tree: &Tree, path: &[Text]) -> Result<u32, Refusal>
     ensures { IsChecked (why_no_node (plain_of whole tree.now).nodes path.now) tree.now path.now result }
 {
     match tree.find(path) {
@@ -81,14 +82,18 @@ pub fn file_at(tree: &Tree, path: &[Text]) -> Result<u32, Refusal>
     }
 }
 
-/// The file at a path, or why it can't be as long as to the end of a range.
+/// The file at a path, or why it can't be changed, or not be as long as to the end of a range.
 pub fn long_file_at(tree: &Tree, path: &[Text], offset: u64, count: u64) -> Result<u32, Refusal>
     ensures { IsChecked
-        (first_of (why_no_file (plain_of whole tree.now).nodes path.now ∷ why_too_long (offset + count) ∷ []))
+        (first_of (why_no_file (plain_of whole tree.now).nodes path.now
+        ∷ read_only (plain_of whole tree.now).nodes path.now ∷ why_too_long (offset + count) ∷ []))
         tree.now path.now result }
 {
     match file_at(tree, path) {
         Ok(number) => {
+            if tree.is_readonly(number) {
+                return Err(Refusal::ReadOnly);
+            }
             if offset > LONGEST_FILE || count > LONGEST_FILE - offset {
                 return Err(Refusal::TooLong);
             }
@@ -100,7 +105,7 @@ pub fn long_file_at(tree: &Tree, path: &[Text], offset: u64, count: u64) -> Resu
 
 /// The node at a path, or why it can't be removed.
 pub fn bare_at(tree: &Tree, path: &[Text]) -> Result<u32, Refusal>
-    ensures { IsChecked (refusal_of (plain_of whole tree.now) (asks.Remove path.now)) tree.now path.now result }
+    ensures { IsChecked (refusal_within (plain_of whole tree.now) (asks.Remove path.now)) tree.now path.now result }
 {
     if path.is_empty() {
         return Err(Refusal::Root);
@@ -110,10 +115,76 @@ pub fn bare_at(tree: &Tree, path: &[Text]) -> Result<u32, Refusal>
             if tree.has_entries(number) {
                 return Err(Refusal::NotEmpty);
             }
+            if tree.is_readonly(tree.parent(number)) {
+                return Err(Refusal::ReadOnly);
+            }
             Ok(number)
         }
         Found::Missing => Err(Refusal::NotFound),
         Found::NotDir => Err(Refusal::NotDir),
+    }
+}
+
+/// The node at a path, or why a key of it can't get any bytes.
+pub fn key_at(tree: &Tree, path: &[Text], key: &Text) -> Result<u32, Refusal>
+    ensures { (bytes : List ℕ) → IsChecked
+        (refusal_within (plain_of whole tree.now) (asks.Setx path.now key.now bytes)) tree.now path.now result }
+{
+    if !is_key(key.as_str()) {
+        return Err(Refusal::BadKey);
+    }
+    match node_at(tree, path) {
+        Ok(number) => {
+            if tree.is_readonly(number) {
+                return Err(Refusal::ReadOnly);
+            }
+            if has_many_keys(tree, number, key) {
+                return Err(Refusal::ManyKeys);
+            }
+            Ok(number)
+        }
+        Err(refusal) => Err(refusal),
+    }
+}
+
+/// Whether a node gets no such further key.
+fn has_many_keys(tree: &Tree, number: u32, key: &Text) -> bool
+    requires { IsThere tree.now.nodes number }
+    ensures { (path : Path) → StandsAt tree.now path number
+        → refuse_if result Refusal.ManyKeys ≡ why_many_keys (plain_of whole tree.now).nodes path key.now }
+{
+    tree.key_count(number) >= MOST_KEYS && tree.get_key(number, key.as_str()).is_none()
+}
+
+/// The node at a path, or why it has no such key.
+pub fn known_key_at(tree: &Tree, path: &[Text], key: &Text) -> Result<u32, Refusal>
+    ensures { IsChecked (refusal_within (plain_of whole tree.now) (asks.Getx path.now key.now))
+        tree.now path.now result }
+{
+    match node_at(tree, path) {
+        Ok(number) => {
+            if tree.get_key(number, key.as_str()).is_none() {
+                return Err(Refusal::NoKey);
+            }
+            Ok(number)
+        }
+        Err(refusal) => Err(refusal),
+    }
+}
+
+/// The node at a path, or why it can't lose such a key.
+pub fn held_key_at(tree: &Tree, path: &[Text], key: &Text) -> Result<u32, Refusal>
+    ensures { IsChecked (refusal_within (plain_of whole tree.now) (asks.Dropx path.now key.now))
+        tree.now path.now result }
+{
+    match known_key_at(tree, path, key) {
+        Ok(number) => {
+            if tree.is_readonly(number) {
+                return Err(Refusal::ReadOnly);
+            }
+            Ok(number)
+        }
+        Err(refusal) => Err(refusal),
     }
 }
 
@@ -143,11 +214,14 @@ fn free_in(tree: &Tree, dir: u32, name: &Text) -> Result<u32, Refusal>
     requires { IsThere tree.now.nodes dir }
     ensures { (path : Path) → StandsAt tree.now path dir → IsChecked
         (first_of (exists_at (plain_of whole tree.now).nodes (path ++ name.now ∷ [])
-        ∷ too_many (plain_of whole tree.now) ∷ []))
+        ∷ read_only (plain_of whole tree.now).nodes path ∷ too_many (plain_of whole tree.now) ∷ []))
         tree.now path result }
 {
     if tree.taken(dir, name).is_some() {
         return Err(Refusal::Exists);
+    }
+    if tree.is_readonly(dir) {
+        return Err(Refusal::ReadOnly);
     }
     if is_full(tree) {
         return Err(Refusal::TooMany);
@@ -169,7 +243,7 @@ pub fn find_move(
     from: &[Text],
     to: &[Text],
 ) -> Result<Result<Move, Refusal>, NoMemory>
-    ensures { IfOk result (λ found. IsMove (refusal_of (plain_of whole tree.now) (asks.Rename from.now to.now))
+    ensures { IfOk result (λ found. IsMove (refusal_within (plain_of whole tree.now) (asks.Rename from.now to.now))
         tree.now from.now to.now found) }
 {
     if let Some(refusal) = bad_name(alloc, to)? {
@@ -247,24 +321,33 @@ fn move_in(
     numbers: (u32, u32),
     name: &Text,
 ) -> Result<Move, Refusal>
-    requires there { IsThere tree.now.nodes numbers.1 }
+    requires there { IsThere tree.now.nodes numbers.0 }
+    requires dir { IsThere tree.now.nodes numbers.1 }
     ensures { (up : Path) → StandsAt tree.now from.now numbers.0 → StandsAt tree.now up numbers.1
         → to.now ≡ up ++ name.now ∷ [] → IsMove (if paths.same_path from.now to.now then None else
         first_of (exists_at (plain_of whole tree.now).nodes to.now
-        ∷ refuse_if (paths.is_below from.now to.now) Refusal.Inside ∷ []))
+        ∷ refuse_if (paths.is_below from.now to.now) Refusal.Inside
+        ∷ read_only (plain_of whole tree.now).nodes (paths.parent_of from.now)
+        ∷ read_only (plain_of whole tree.now).nodes (paths.parent_of to.now) ∷ []))
         tree.now from.now to.now result }
 {
     if same_path(from, to) {
         return Ok(Move::Nothing);
     }
-    let (number, dir) = numbers;
-    if tree.taken(dir, name).is_some() {
+    let (number, up) = numbers;
+    if tree.taken(up, name).is_some() {
         return Err(Refusal::Exists);
     }
     if is_below(from, to) {
         return Err(Refusal::Inside);
     }
-    Ok(Move::Into { number, dir })
+    if tree.is_readonly(tree.parent(number)) {
+        return Err(Refusal::ReadOnly);
+    }
+    if tree.is_readonly(up) {
+        return Err(Refusal::ReadOnly);
+    }
+    Ok(Move::Into { number, dir: up })
 }
 
 /// Whether two paths are one. Long ones mostly differ in their last names.

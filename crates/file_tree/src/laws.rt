@@ -4,7 +4,7 @@ ghost use Rattle.index_model.specs.Order.{AreInOrder};
 ghost use Rattle.index_model.specs.Valid.{Agrees};
 ghost use Rattle.file_tree.specs.Blocks.{BlocksMakeTheTree, EndsHold};
 ghost use Rattle.file_tree.specs.Carried.{FactsAreCarried};
-ghost use Rattle.file_tree.specs.Edits.{RefusalsAreAlike};
+ghost use Rattle.file_tree.specs.Edits.{OutlinesKeepFiles, RefusalsAreAlike};
 ghost use Rattle.file_tree.specs.Indexes.{IndexesAreToldAgain, IndexesComeBack};
 ghost use Rattle.file_tree.specs.Mounts.{Letters, MountsLieBelow};
 ghost use Rattle.file_tree.specs.Told.{told_nodes};
@@ -35,6 +35,11 @@ pub fn blocks_make_the_tree()
 /// tree below them.
 pub fn ends_hold()
     ensures { EndsHold }
+{}
+
+/// What changes times, flags, attributes and the lock alone leaves all numbers, files and blocks where they are.
+pub fn outlines_keep_files()
+    ensures { OutlinesKeepFiles }
 {}
 
 /// An overlay over new blocks that hold the bytes of a write is the plain tree's write.

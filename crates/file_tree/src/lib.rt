@@ -18,12 +18,16 @@ mod store;
 mod told;
 mod tree;
 
-pub use carried::{Carried, Heading};
-pub use checks::{Move, bare_at, dir_of_new, file_at, find_move, long_file_at};
+pub use carried::{Carried, Heading, lock_of, told_lock};
+pub use checks::{
+    Move, bare_at, dir_of_new, file_at, find_move, held_key_at, key_at, known_key_at, long_file_at,
+    node_at,
+};
 pub use found::Found;
 pub use laws::{
     blocks_make_the_tree, ends_hold, facts_are_carried, indexes_are_told_again, indexes_come_back,
-    mounts_lie_below, plain_nodes_agree, refusals_are_alike, told_nodes_agree, writes_are_writes,
+    mounts_lie_below, outlines_keep_files, plain_nodes_agree, refusals_are_alike, told_nodes_agree,
+    writes_are_writes,
 };
 pub use raws::Letters;
 pub use tree::Tree;

@@ -7,7 +7,7 @@ ghost use Rattle.file_tree.specs.Seen.{held};
 ghost use Rattle.file_tree.specs.Order.{AreEmpty};
 ghost use Rattle.file_tree.specs.Places.{used, CanStore, IsSetIn};
 
-use crate::changes::NodeChange;
+use crate::changes::{NodeChange, NodeRoom};
 use crate::guesses::Guesses;
 use crate::listing::lines_of;
 use crate::members::{child, is_child, name_in, name_out, named};
@@ -353,24 +353,24 @@ impl Places {
     }
 
     /// Changes a node. Takes no memory.
-    pub fn change(&mut self, number: u32, change: NodeChange, at: Moment)
+    pub fn change(&mut self, number: u32, change: NodeChange<'_>, at: Moment)
         requires there { IsThere self.old.nodes number }
         requires can { (path : Path) (node : Node) → fin.get self.old.nodes path ≡ Some node → node.number ≡ number
             → CanChange change node }
-        ensures changed { IsChangedAt self.old.nodes self.new.nodes number (λ a b. IsChangedBy change at a b) }
+        ensures changed { IsChangedAt self.old.nodes self.new.nodes number (λ a b. IsChangedBy change.entry at a b) }
         ensures room { self.new.spare ≡ self.old.spare }
     {
         self.store.change(number, change, at);
     }
 
-    /// Makes room for one overlay of a node that is a file.
-    pub fn reserve_extent(&mut self, number: u32) -> Result<(), NoMemory>
+    /// Makes room in a node.
+    pub fn reserve_in(&mut self, number: u32, room: NodeRoom) -> Result<(), NoMemory>
         requires { IsThere self.old.nodes number }
         ensures changed { IsChangedAt self.old.nodes self.new.nodes number
-            (λ a b. IsRoomier a b × OnOk result (HasRoom b)) }
+            (λ a b. IsRoomier room a b × OnOk result (HasRoom room b)) }
         ensures room { self.new.spare ≡ self.old.spare }
     {
-        self.store.reserve_extent(number)
+        self.store.reserve_in(number, room)
     }
 }
 

@@ -5,7 +5,7 @@ ghost use Rattle.file_tree.specs.Seen.{held};
 ghost use Rattle.file_tree.specs.Changes.{CanChange, IsChangedBy, IsRoomier, HasRoom};
 ghost use Rattle.file_tree.specs.Places.{used, IsChangedIn, IsSetIn};
 
-use crate::changes::{NodeChange, change_node, reserve_node};
+use crate::changes::{NodeChange, NodeRoom, change_node, reserve_node};
 use crate::nodes::Spot;
 use tape_types::{Moment, NoMemory, Text};
 
@@ -75,10 +75,10 @@ pub fn shift_spot(spots: &mut Spots, number: u32, dir: u32, name: Text)
 }
 
 /// Changes a node.
-pub fn change_spot(spots: &mut Spots, number: u32, change: NodeChange, at: Moment)
+pub fn change_spot(spots: &mut Spots, number: u32, change: NodeChange<'_>, at: Moment)
     requires there { IsSome (held spots.old.items number) }
     requires can { (s : Spot) → held spots.old.items number ≡ Some s → CanChange change s.node }
-    ensures changed { IsChangedIn spots.old.items spots.new.items number (λ a b. IsChangedBy change at a b) }
+    ensures changed { IsChangedIn spots.old.items spots.new.items number (λ a b. IsChangedBy change.entry at a b) }
     ensures room { vec_capacity spots.new - vec_len spots.new ≡ vec_capacity spots.old - vec_len spots.old }
 {
     match &mut spots[number as usize] {
@@ -87,15 +87,15 @@ pub fn change_spot(spots: &mut Spots, number: u32, change: NodeChange, at: Momen
     }
 }
 
-/// Makes room for one overlay of a node that is a file.
-pub fn reserve_spot(spots: &mut Spots, number: u32) -> Result<(), NoMemory>
+/// Makes room in a node.
+pub fn reserve_spot(spots: &mut Spots, number: u32, room: NodeRoom) -> Result<(), NoMemory>
     requires { IsSome (held spots.old.items number) }
     ensures changed { IsChangedIn spots.old.items spots.new.items number
-        (λ a b. IsRoomier a b × OnOk result (HasRoom b)) }
+        (λ a b. IsRoomier room a b × OnOk result (HasRoom room b)) }
     ensures room { vec_capacity spots.new - vec_len spots.new ≡ vec_capacity spots.old - vec_len spots.old }
 {
     match &mut spots[number as usize] {
-        Some(spot) => reserve_node(&mut spot.node),
+        Some(spot) => reserve_node(&mut spot.node, room),
         None => unreachable!(),
     }
 }

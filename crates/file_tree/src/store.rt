@@ -1,7 +1,7 @@
 ghost use Rattle.std.specs.Prelude.{◌≡◌};
 ghost use Rattle.file_tree.specs.Seen.{Seen, Seen-prop};
 
-use crate::changes::NodeChange;
+use crate::changes::{NodeChange, NodeRoom};
 use crate::nodes::{Node, Spot};
 use crate::spots::{change_spot, fill_spot, reserve_spot, shift_spot, spot_at, take_spot};
 use std::alloc::Global;
@@ -206,27 +206,27 @@ impl Store {
     }
 
     /// Changes a node. Takes no memory.
-    pub fn change(&mut self, number: u32, change: NodeChange, at: Moment)
+    pub fn change(&mut self, number: u32, change: NodeChange<'_>, at: Moment)
         requires there { IsThere self.old.nodes number }
         requires can { (path : Path) (node : Node) → fin.get self.old.nodes path ≡ Some node → node.number ≡ number
             → CanChange change node }
-        ensures changed { IsChangedAt self.old.nodes self.new.nodes number (λ a b. IsChangedBy change at a b) }
-        ensures spots { IsChangedIn self.old.spots self.new.spots number (λ a b. IsChangedBy change at a b) }
+        ensures changed { IsChangedAt self.old.nodes self.new.nodes number (λ a b. IsChangedBy change.entry at a b) }
+        ensures spots { IsChangedIn self.old.spots self.new.spots number (λ a b. IsChangedBy change.entry at a b) }
         ensures room { self.new.spare ≡ self.old.spare }
     {
         change_spot(&mut self.spots, number, change, at);
     }
 
-    /// Makes room for one overlay of a node that is a file.
-    pub fn reserve_extent(&mut self, number: u32) -> Result<(), NoMemory>
+    /// Makes room in a node.
+    pub fn reserve_in(&mut self, number: u32, room: NodeRoom) -> Result<(), NoMemory>
         requires { IsThere self.old.nodes number }
         ensures changed { IsChangedAt self.old.nodes self.new.nodes number
-            (λ a b. IsRoomier a b × OnOk result (HasRoom b)) }
+            (λ a b. IsRoomier room a b × OnOk result (HasRoom room b)) }
         ensures spots { IsChangedIn self.old.spots self.new.spots number
-            (λ a b. IsRoomier a b × OnOk result (HasRoom b)) }
+            (λ a b. IsRoomier room a b × OnOk result (HasRoom room b)) }
         ensures room { self.new.spare ≡ self.old.spare }
     {
-        reserve_spot(&mut self.spots, number)
+        reserve_spot(&mut self.spots, number, room)
     }
 }
 

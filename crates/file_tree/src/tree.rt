@@ -1,12 +1,13 @@
-ghost use Rattle.std.specs.Prelude.{◌≡◌, ℕ, ◌≤◌, List, Some};
+ghost use Rattle.std.specs.Prelude.{◌≡◌, ℕ, ◌<◌, ◌≤◌, List, Some};
+ghost use Rattle.std.specs.List.{slice_index};
 ghost use Rattle.tape_types.specs.Bounds.{longest_file};
 ghost use Rattle.extent_map.specs.Laid.{Room};
 ghost use Rattle.plain_tree.specs.Paths.{Path};
 ghost use Rattle.file_tree.specs.Tree.{HasExtents, number_at};
 ghost use Rattle.file_tree.specs.Edits.{IsNewKind, IsLongAt, made_node};
 
-use crate::carried::{Carried, Heading};
-use crate::changes::NodeChange;
+use crate::carried::{Carried, Heading, lock_of};
+use crate::changes::{NodeChange, NodeRoom};
 use crate::found::{Found, facts_of, lost_below, sort_of};
 use crate::mount::place_nodes;
 use crate::nodes::{HeldKind, Node};
@@ -14,11 +15,11 @@ use crate::places::Places;
 use crate::raws::Letters;
 use extent_map::Extents;
 use index_model::Index;
-use plain_tree::{Entry, Facts, Sort};
+use plain_tree::{Entry, Facts, LockState, Sort};
 use std::alloc::Global;
 use std::marker::Model;
 use tape_types::node_keys::Keys;
-use tape_types::{Extent, List, Moment, NoMemory, Text, Times};
+use tape_types::{Bytes, Extent, List, Moment, NoMemory, Text, Times};
 
 /// The tree of a volume while the server runs: directories, files as extents, and links (LTFS 2.4 on the index). Each
 /// node has a number as long as it is there.
@@ -28,6 +29,7 @@ pub struct Tree {
     volume: Text,
     block_size: u32,
     highest: u64,
+    lock: LockState,
     alloc: Global,
 }
 
@@ -36,6 +38,8 @@ impl Model for Tree {
     ghost use Rattle.std.specs.FinMap as fin;
     ghost use Rattle.std.specs.Coded.{coded_list, coded_ℕ, coded×, code_by};
     ghost use Rattle.plain_tree.specs.Paths.{path_cmp};
+    ghost use Rattle.plain_tree.specs.declared.calls.LockState.{LockState};
+    ghost use Rattle.plain_tree.specs.contracts.calls.LockState as state;
     ghost use Rattle.file_tree.specs.declared.nodes.Node.{Node};
     ghost use Rattle.file_tree.specs.contracts.nodes.Node as node;
     ghost use Rattle.file_tree.specs.Tree.{FileTree};
@@ -43,20 +47,22 @@ impl Model for Tree {
 
     ghost Value = { FileTree };
 
-    ghost coded = { code_by (ℕ × (List ℕ × (ℕ × (fin.FinMap path_cmp Node × ℕ))))
-        (coded× coded_ℕ (coded× (coded_list coded_ℕ) (coded× coded_ℕ
-        (coded× (fin.code (coded_list (coded_list coded_ℕ)) node.the_row.coded) coded_ℕ))))
-        (λ t. (t.highest, (t.name, (t.block_size, (t.nodes, t.spare)))))
+    ghost coded = { code_by (ℕ × (LockState × (List ℕ × (ℕ × (fin.FinMap path_cmp Node × ℕ)))))
+        (coded× coded_ℕ (coded× state.the_row.coded (coded× (coded_list coded_ℕ) (coded× coded_ℕ
+        (coded× (fin.code (coded_list (coded_list coded_ℕ)) node.the_row.coded) coded_ℕ)))))
+        (λ t. (t.highest, (t.lock, (t.name, (t.block_size, (t.nodes, t.spare))))))
         (λ p. record {
           highest = p.0;
-          name = p.1.0;
-          block_size = p.1.1.0;
-          nodes = p.1.1.1.0;
-          spare = p.1.1.1.1;
+          lock = p.1.0;
+          name = p.1.1.0;
+          block_size = p.1.1.1.0;
+          nodes = p.1.1.1.1.0;
+          spare = p.1.1.1.1.1;
         }) (λ _. refl) };
 
     ghost view = { λ a. record {
       highest = a.highest;
+      lock = a.lock;
       name = a.volume;
       block_size = a.block_size;
       nodes = a.places.nodes;
@@ -65,6 +71,7 @@ impl Model for Tree {
 
     ghost invariant = { λ a. IsGood (record {
       highest = a.highest;
+      lock = a.lock;
       name = a.volume;
       block_size = a.block_size;
       nodes = a.places.nodes;
@@ -75,15 +82,15 @@ impl Model for Tree {
 impl Tree {
     ghost use Rattle.std.specs.Prelude.{◌≡◌, ◌≢◌, ℕ, ◌+◌, ◌≤◌, ◌==◌, if◌then◌else◌, nat_lt, length, List, []};
     ghost use Rattle.std.specs.Prelude.{◌∷◌, ◌++◌, Some, OnOk, IfOk};
+    ghost use Rattle.std.specs.Option.{option_map};
     ghost use Rattle.std.specs.FinMap as fin;
     ghost use Rattle.extent_map.specs.Laid.{Laid, Room, overlaid, resized};
     ghost use Rattle.extent_map.specs.Cells.{Tape};
     ghost use Rattle.plain_tree.specs.declared.calls.Call.TheVariants as asks;
-    ghost use Rattle.plain_tree.specs.Paths.{moved_path};
-    ghost use Rattle.plain_tree.specs.Paths.{Path};
+    ghost use Rattle.plain_tree.specs.Paths.{Path, moved_path, parent_of};
     ghost use Rattle.file_tree.specs.Tree.{StandsAt, HasExtents, HasLaid, number_at, plain_of, whole};
     ghost use Rattle.plain_tree.specs.declared.nodes.Node.{Node as PlainNode};
-    ghost use Rattle.plain_tree.specs.Tree.{entries_in, facts_of};
+    ghost use Rattle.plain_tree.specs.Tree.{entries_in, facts_of, flag_at, key_count, value_at};
     ghost use Rattle.plain_tree.specs.Refusals.{no_node};
     ghost use Rattle.file_tree.specs.Places.{IsThere};
     ghost use Rattle.file_tree.specs.Mounts.{CanMount, IsTreeOf};
@@ -93,6 +100,7 @@ impl Tree {
     ghost use Rattle.file_tree.specs.Valid.{IsFileOf, IsGood};
     ghost use Rattle.file_tree.specs.Blocks.{AddsNoBlock, AddsBlocksOf};
     ghost use Rattle.file_tree.specs.Edits.{CanMake, CanUnlink, CanMoveTo, CanWrite, IsAfter, IsWritten, IsTruncated};
+    ghost use Rattle.file_tree.specs.Edits.{CanSetKey, CanDropKey, CanFlag, HasKeyRoom, KeepsOutline};
     ghost use Rattle.file_tree.specs.Edits.{NumbersCome, AllLie, OthersLie, KeepsVolume};
 
     /// The tree of a valid index. The letters are those of the index partition and the data partition, and each block
@@ -114,6 +122,7 @@ impl Tree {
             volume,
             block_size,
             highest: index.highest,
+            lock: lock_of(index.lock),
             alloc,
         })
     }
@@ -123,6 +132,20 @@ impl Tree {
         ensures { result ≡ self.now.highest }
     {
         self.highest
+    }
+
+    /// The lock state of the volume.
+    pub fn lock(&self) -> LockState
+        ensures { result ≡ self.now.lock }
+    {
+        self.lock
+    }
+
+    /// Sets the lock state.
+    pub fn set_lock(&mut self, state: LockState)
+        ensures { self.new ≡ record self.old { lock = state } }
+    {
+        self.lock = state;
     }
 
     /// How many nodes there are, the root among them.
@@ -162,6 +185,14 @@ impl Tree {
         self.places.taken(dir, name)
     }
 
+    /// The number of the directory that a node is in.
+    pub fn parent(&self, number: u32) -> u32
+        requires { IsThere self.now.nodes number }
+        ensures { (path : Path) → StandsAt self.now path number → StandsAt self.now (parent_of path) result }
+    {
+        self.places.parent(number)
+    }
+
     /// What a node is.
     pub fn sort(&self, number: u32) -> Sort
         requires { IsThere self.now.nodes number }
@@ -178,6 +209,33 @@ impl Tree {
             → facts ≡ facts_of node) }
     {
         facts_of(alloc, self.places.node(number))
+    }
+
+    /// Whether a node is read-only.
+    pub fn is_readonly(&self, number: u32) -> bool
+        requires { IsThere self.now.nodes number }
+        ensures { (tape : Tape) (path : Path) → StandsAt self.now path number
+            → result ≡ flag_at (plain_of tape self.now).nodes path }
+    {
+        self.places.node(number).readonly
+    }
+
+    /// The bytes of a key of a node; none where it has no such key.
+    pub fn get_key(&self, number: u32, key: &str) -> Option<&Bytes>
+        requires { IsThere self.now.nodes number }
+        ensures { (tape : Tape) (path : Path) → StandsAt self.now path number
+            → option_map (λ b. b.now) result ≡ value_at (plain_of tape self.now).nodes path key.now }
+    {
+        self.places.node(number).keys.get(key)
+    }
+
+    /// How many keys a node has.
+    pub fn key_count(&self, number: u32) -> usize
+        requires { IsThere self.now.nodes number }
+        ensures { (tape : Tape) (path : Path) → StandsAt self.now path number
+            → result ≡ key_count (plain_of tape self.now).nodes path }
+    {
+        self.places.node(number).keys.len()
     }
 
     /// Whether anything stands directly in a directory.
@@ -221,13 +279,14 @@ impl Tree {
         ensures { IfOk result (λ index. index ≡ index_of_tree letters heading carried.now self.now) }
     {
         let nodes = self.to_nodes(alloc, letters)?;
-        carried.to_index(alloc, heading, self.highest, nodes)
+        carried.to_index(alloc, heading, self.lock, self.highest, nodes)
     }
 
     /// Makes room for one more node.
     pub fn reserve(&mut self) -> Result<(), NoMemory>
         ensures nodes { self.new.nodes ≡ self.old.nodes }
         ensures highest { self.new.highest ≡ self.old.highest }
+        ensures lock { self.new.lock ≡ self.old.lock }
         ensures volume { KeepsVolume self.old self.new }
         ensures room { OnOk result (1 ≤ self.new.spare) }
     {
@@ -322,7 +381,7 @@ impl Tree {
         ensures volume { KeepsVolume self.old self.new }
         ensures spare { self.new.spare ≡ self.old.spare }
     {
-        self.places.reserve_extent(file)
+        self.places.reserve_in(file, NodeRoom::Extent)
     }
 
     /// Puts an extent in place of what a file has in its range, and makes the file longer where it ends past it. Needs
@@ -360,6 +419,50 @@ impl Tree {
             self.places.change(file, NodeChange::Resize(length), at);
         }
     }
+
+    /// Makes room for one more key of a node.
+    pub fn reserve_key(&mut self, number: u32) -> Result<(), NoMemory>
+        requires { IsThere self.old.nodes number }
+        ensures plain { (tape : Tape) → plain_of tape self.new ≡ plain_of tape self.old }
+        ensures outline { KeepsOutline self.old self.new }
+        ensures room { OnOk result (HasKeyRoom self.new number) }
+    {
+        self.places.reserve_in(number, NodeRoom::Key)
+    }
+
+    /// Gives a key of a node its bytes, and notes the change. Needs one `reserve_key` before, and takes no memory.
+    pub fn set_key(&mut self, number: u32, key: Text, value: Bytes, at: Moment)
+        requires { CanSetKey self.old number key value }
+        ensures plain { (path : Path) → StandsAt self.old path number
+            → IsAfter (asks.Setx path key value) at self.old self.new }
+        ensures outline { KeepsOutline self.old self.new }
+    {
+        // A key is UTF-8, and a value is bytes.
+        let _is_text = key.as_str();
+        each_is_byte(value.as_slice());
+        self.places
+            .change(number, NodeChange::SetKey(key, value), at);
+    }
+
+    /// Takes out a key that stands, and notes the change. Takes no memory.
+    pub fn drop_key(&mut self, number: u32, key: &Text, at: Moment)
+        requires { CanDropKey self.old number key.now }
+        ensures plain { (path : Path) → StandsAt self.old path number
+            → IsAfter (asks.Dropx path key.now) at self.old self.new }
+        ensures outline { KeepsOutline self.old self.new }
+    {
+        self.places.change(number, NodeChange::DropKey(key), at);
+    }
+
+    /// Makes a node read-only or no longer, and notes the change. Takes no memory.
+    pub fn set_readonly(&mut self, number: u32, on: bool, at: Moment)
+        requires { CanFlag self.old number on }
+        ensures plain { (path : Path) → StandsAt self.old path number
+            → IsAfter (asks.Readonly path on) at self.old self.new }
+        ensures outline { KeepsOutline self.old self.new }
+    {
+        self.places.change(number, NodeChange::Flag(on), at);
+    }
 }
 
 /// The length of a file, in bytes.
@@ -371,6 +474,13 @@ fn length_of(places: &Places, file: u32) -> u64
         HeldKind::File(extents) => extents.length(),
         HeldKind::Dir | HeldKind::Link(_) => unreachable!(),
     }
+}
+
+/// Does nothing: each element of a slice of bytes is below 256.
+fn each_is_byte(bytes: &[u8])
+    ensures { (i : ℕ) → slice_index bytes.now i < 256 }
+{
+    let _count = bytes.len();
 }
 
 /// What a new node is. Takes no memory.

@@ -52,6 +52,7 @@ use Rattle.format_volume.specs.Writes.{Goes}
 use Rattle.tape_drive.specs.declared.drive.Drive.{Ghosts}
 use Rattle.format_volume.proofs.TextLemmas.{some_block, tells}
 use Rattle.format_volume.proofs.ValidLemmas.{valid}
+use Rattle.plain_tree.specs.declared.calls.LockState.TheVariants as locks
 
 -- a document has a byte
 some_byte : (part : Part) (spec : FormatSpec) → document_on part spec ≢ []
@@ -154,11 +155,12 @@ module _ (spec : FormatSpec) (fine : spec_fault spec ≡ None) (read : AreRead s
   root = made_node 1 kept_kinds.Dir spec.at
 
   abbrev tree : FileTree
-  tree = record { highest = 1; name = spec.name; block_size = spec.block; nodes = fin.insert fin.empty [] root; spare = 0 }
+  tree = record { highest = 1; lock = locks.Absent; name = spec.name; block_size = spec.block; nodes = fin.insert fin.empty [] root; spare = 0 }
 
   is_tree : (part : Part) → mounts.IsTreeOf (97, 98) spec.block (index_on part spec) tree
   is_tree part = record {
     highest = refl;
+    lock = refl;
     name = λ node is. let same : root_of spec ≡ node = cc is in ap (λ (n : Node). n.name) same;
     block_size = refl;
     nodes = first_built (97, 98) spec.block (root_of spec ∷ []) (root_of spec) root (fin.insert fin.empty [] root) refl refl
@@ -173,7 +175,7 @@ module _ (spec : FormatSpec) (fine : spec_fault spec ≡ None) (read : AreRead s
     is_empty part = (
       tree,
       is_tree part,
-      ap (λ (nodes : plain.Nodes). record { highest = 1; nodes = nodes })
+      ap (λ (nodes : plain.Nodes). record { highest = 1; lock = locks.Absent; nodes = nodes })
           (sym (plain_insert (tape_of c) fin.empty [] root
           ∙ ap (λ (m : plain.Nodes). fin.insert m [] (plain.new_node plain_kinds.Dir 1 spec.at)) (plain_empty (tape_of c)))),
     )

@@ -22,7 +22,7 @@ labels_for spec = record {
 
 -- what each later index takes over: the name and the policy that were asked for, and that the policy may be changed
 abbrev pub carried_for : FormatSpec → Carried
-carried_for spec = record { root = spec.name; comment = None; allow = true; policy = spec.policy; lock = None }
+carried_for spec = record { root = spec.name; comment = None; allow = true; policy = spec.policy }
 
 -- The cartridge stands for the empty tree, with the name and the policy that were asked for, as its first generation,
 -- by the indexes of both partitions alike. Each partition ends with its index, that of the index partition is the only

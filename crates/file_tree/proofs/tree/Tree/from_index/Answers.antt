@@ -21,4 +21,4 @@ invariant_of-result c =
     (subst (λ (l : List told.Node). IsBuilt c.args.letters c.args.block_size l (length l) c.in_ok-places.places.nodes) c.as_slice-nodes.ensures c.in_ok-places.ensures.built)
     c.in_ok-places.ensures.files c.in_ok-volume.volume order.root order.first
     (c.in_ok-volume.ensures {u = tt} ∙ ap (λ (n : told.Node). n.name) (ap (λ l. get_or l 0 c.index-nodes-0.result) c.as_slice-nodes.ensures ∙ first_is c.args.index.now.nodes order.root c.index-nodes-0.result order.first))
-    c.ranges.block_size.fits c.in_ok-places.places.spare
+    c.ranges.block_size.fits c.in_ok-places.places.spare _

@@ -38,7 +38,7 @@ invariant_of-self c =
     let t : FileTree = tree_of c.self.inside in
     let can : CanMoveTo t c.args.number c.args.dir c.args.name = subst (λ (t : FileTree). CanMoveTo t c.args.number c.args.dir c.args.name) (sym c.self.view_is) c.requires in
     let next : FileTree = with_nodes c.self.inside c.change-3.new.self.nodes c.change-3.new.self.spare in
-    move_good t c.self.invariant c.args.number c.args.dir c.args.name c.args.at can c.shift.new.self.nodes c.shift.ensures.shifted c.parent-old.result c.parent-old.ensures.parent c.change.new.self.nodes c.change.ensures.changed c.change-2.new.self.nodes c.change-2.ensures.changed next c.change-3.ensures.changed refl refl refl (subst IsUtf8 c.as_str-is_text.ensures c.as_str-is_text.utf8)
+    move_good t c.self.invariant c.args.number c.args.dir c.args.name c.args.at can c.shift.new.self.nodes c.shift.ensures.shifted c.parent-old.result c.parent-old.ensures.parent c.change.new.self.nodes c.change.ensures.changed c.change-2.new.self.nodes c.change-2.ensures.changed next c.change-3.ensures.changed refl refl refl refl (subst IsUtf8 c.as_str-is_text.ensures c.as_str-is_text.utf8)
 
 pub returns-clause-plain : goal.returns-clause-plain
 returns-clause-plain c from up stands dir_stands =
@@ -49,7 +49,7 @@ returns-clause-plain c from up stands dir_stands =
     let up_is : can.up ≡ up = c.parent-old.ensures.apart can.up up c.args.dir can.dir_stands (ap (λ (t : FileTree). number_at t.nodes up) c.self.view_is ∙ dir_stands) in
     subst (λ p. IsAfter (asks.Rename p (up ++ c.args.name ∷ [])) c.args.at c.args.self.now next) from_is
     (subst (λ u. IsAfter (asks.Rename can.path (u ++ c.args.name ∷ [])) c.args.at c.args.self.now next) up_is
-    (subst (λ (t : FileTree). IsAfter (asks.Rename can.path (can.up ++ c.args.name ∷ [])) c.args.at t next) c.self.view_is (move_here t c.self.invariant c.args.number c.args.dir c.args.name c.args.at can c.shift.new.self.nodes c.shift.ensures.shifted c.parent-old.result c.parent-old.ensures.parent c.change.new.self.nodes c.change.ensures.changed c.change-2.new.self.nodes c.change-2.ensures.changed next c.change-3.ensures.changed refl refl)))
+    (subst (λ (t : FileTree). IsAfter (asks.Rename can.path (can.up ++ c.args.name ∷ [])) c.args.at t next) c.self.view_is (move_here t c.self.invariant c.args.number c.args.dir c.args.name c.args.at can c.shift.new.self.nodes c.shift.ensures.shifted c.parent-old.result c.parent-old.ensures.parent c.change.new.self.nodes c.change.ensures.changed c.change-2.new.self.nodes c.change-2.ensures.changed next c.change-3.ensures.changed refl refl refl)))
 
 pub returns-clause-numbers : goal.returns-clause-numbers
 returns-clause-numbers c from up stands dir_stands =
@@ -60,14 +60,14 @@ returns-clause-numbers c from up stands dir_stands =
     let up_is : can.up ≡ up = c.parent-old.ensures.apart can.up up c.args.dir can.dir_stands (ap (λ (t : FileTree). number_at t.nodes up) c.self.view_is ∙ dir_stands) in
     subst (λ p. NumbersCome (moved_path p (up ++ c.args.name ∷ [])) c.args.self.now next) from_is
     (subst (λ u. NumbersCome (moved_path can.path (u ++ c.args.name ∷ [])) c.args.self.now next) up_is
-    (subst (λ (t : FileTree). NumbersCome (moved_path can.path (can.up ++ c.args.name ∷ [])) t next) c.self.view_is (move_numbers t c.self.invariant c.args.number c.args.dir c.args.name c.args.at can c.shift.new.self.nodes c.shift.ensures.shifted c.parent-old.result c.parent-old.ensures.parent c.change.new.self.nodes c.change.ensures.changed c.change-2.new.self.nodes c.change-2.ensures.changed next c.change-3.ensures.changed refl refl)))
+    (subst (λ (t : FileTree). NumbersCome (moved_path can.path (can.up ++ c.args.name ∷ [])) t next) c.self.view_is (move_numbers t c.self.invariant c.args.number c.args.dir c.args.name c.args.at can c.shift.new.self.nodes c.shift.ensures.shifted c.parent-old.result c.parent-old.ensures.parent c.change.new.self.nodes c.change.ensures.changed c.change-2.new.self.nodes c.change-2.ensures.changed next c.change-3.ensures.changed refl refl refl)))
 
 pub returns-clause-extents : goal.returns-clause-extents
 returns-clause-extents c =
     let t : FileTree = tree_of c.self.inside in
     let can : CanMoveTo t c.args.number c.args.dir c.args.name = subst (λ (t : FileTree). CanMoveTo t c.args.number c.args.dir c.args.name) (sym c.self.view_is) c.requires in
     let next : FileTree = with_nodes c.self.inside c.change-3.new.self.nodes c.change-3.new.self.spare in
-    subst (λ (t : FileTree). AllLie t next) c.self.view_is (move_lies t c.self.invariant c.args.number c.args.dir c.args.name c.args.at can c.shift.new.self.nodes c.shift.ensures.shifted c.parent-old.result c.parent-old.ensures.parent c.change.new.self.nodes c.change.ensures.changed c.change-2.new.self.nodes c.change-2.ensures.changed next c.change-3.ensures.changed refl refl)
+    subst (λ (t : FileTree). AllLie t next) c.self.view_is (move_lies t c.self.invariant c.args.number c.args.dir c.args.name c.args.at can c.shift.new.self.nodes c.shift.ensures.shifted c.parent-old.result c.parent-old.ensures.parent c.change.new.self.nodes c.change.ensures.changed c.change-2.new.self.nodes c.change-2.ensures.changed next c.change-3.ensures.changed refl refl refl)
 
 pub returns-clause-blocks : goal.returns-clause-blocks
 returns-clause-blocks c = all_lie_adds c.args.self.now _ (returns-clause-extents c)

@@ -13,7 +13,7 @@ invariant_of-self c =
     let long : (path : List (List ℕ)) → StandsAt t path c.args.file → IsLongAt t.nodes path c.length_of.result = c.length_of.ensures in
     let h : HasExtents t.nodes c.args.file c.requires.file.0 = subst (λ (t : FileTree). HasExtents t.nodes c.args.file c.requires.file.0) (sym c.self.view_is) c.requires.file.1 in
     let next : FileTree = with_nodes c.self.inside c.change.new.self.nodes c.change.new.self.spare in
-    length_good t next c.self.invariant c.args.file c.args.at c.requires.file.0 h c.args.length c.change.ensures.changed refl refl refl
+    length_good t next c.self.invariant c.args.file c.args.at c.requires.file.0 h c.args.length c.change.ensures.changed refl refl refl refl
 
 pub returns-then-length_of-length-clause-plain : goal.returns-then-length_of-length-clause-plain
 returns-then-length_of-length-clause-plain c =
@@ -21,7 +21,7 @@ returns-then-length_of-length-clause-plain c =
     let long : (path : List (List ℕ)) → StandsAt t path c.args.file → IsLongAt t.nodes path c.length_of.result = c.length_of.ensures in
     let h : HasExtents t.nodes c.args.file c.requires.file.0 = subst (λ (t : FileTree). HasExtents t.nodes c.args.file c.requires.file.0) (sym c.self.view_is) c.requires.file.1 in
     let next : FileTree = with_nodes c.self.inside c.change.new.self.nodes c.change.new.self.spare in
-    subst (λ (t : FileTree). IsTruncated c.args.file c.args.length c.args.at t next) c.self.view_is (length_truncates t next c.self.invariant c.args.file c.args.at c.requires.file.0 h c.args.length c.change.ensures.changed refl refl c.length_of.result long (λ e. c.if-length_of-length.true (sym e)))
+    subst (λ (t : FileTree). IsTruncated c.args.file c.args.length c.args.at t next) c.self.view_is (length_truncates t next c.self.invariant c.args.file c.args.at c.requires.file.0 h c.args.length c.change.ensures.changed refl refl refl c.length_of.result long (λ e. c.if-length_of-length.true (sym e)))
 
 pub returns-then-length_of-length-clause-numbers : goal.returns-then-length_of-length-clause-numbers
 returns-then-length_of-length-clause-numbers c =
@@ -29,7 +29,7 @@ returns-then-length_of-length-clause-numbers c =
     let long : (path : List (List ℕ)) → StandsAt t path c.args.file → IsLongAt t.nodes path c.length_of.result = c.length_of.ensures in
     let h : HasExtents t.nodes c.args.file c.requires.file.0 = subst (λ (t : FileTree). HasExtents t.nodes c.args.file c.requires.file.0) (sym c.self.view_is) c.requires.file.1 in
     let next : FileTree = with_nodes c.self.inside c.change.new.self.nodes c.change.new.self.spare in
-    subst (λ (t : FileTree). NumbersCome (λ p. p) t next) c.self.view_is (relaid_numbers t next c.self.invariant c.args.file c.args.at c.requires.file.0 h (λ laid. resized laid c.args.length) c.change.ensures.changed refl refl)
+    subst (λ (t : FileTree). NumbersCome (λ p. p) t next) c.self.view_is (relaid_numbers t next c.self.invariant c.args.file c.args.at c.requires.file.0 h (λ laid. resized laid c.args.length) c.change.ensures.changed refl refl refl)
 
 pub returns-then-length_of-length-clause-extents : goal.returns-then-length_of-length-clause-extents
 returns-then-length_of-length-clause-extents c laid has =
@@ -38,7 +38,7 @@ returns-then-length_of-length-clause-extents c laid has =
     let h : HasExtents t.nodes c.args.file c.requires.file.0 = subst (λ (t : FileTree). HasExtents t.nodes c.args.file c.requires.file.0) (sym c.self.view_is) c.requires.file.1 in
     let next : FileTree = with_nodes c.self.inside c.change.new.self.nodes c.change.new.self.spare in
     let was : HasLaid t.nodes c.args.file laid = subst (λ (t : FileTree). HasLaid t.nodes c.args.file laid) (sym c.self.view_is) has in
-    resized_lies next.nodes c.args.file c.args.length c.length_of.result laid (resized laid c.args.length) (relaid_lies t next c.self.invariant c.args.file c.args.at c.requires.file.0 h (λ laid. resized laid c.args.length) c.change.ensures.changed refl refl laid was) (λ e. c.if-length_of-length.true (sym e)) (long_is t.nodes c.args.file c.length_of.result laid was long) refl
+    resized_lies next.nodes c.args.file c.args.length c.length_of.result laid (resized laid c.args.length) (relaid_lies t next c.self.invariant c.args.file c.args.at c.requires.file.0 h (λ laid. resized laid c.args.length) c.change.ensures.changed refl refl refl laid was) (λ e. c.if-length_of-length.true (sym e)) (long_is t.nodes c.args.file c.length_of.result laid was long) refl
 
 pub returns-then-length_of-length-clause-others : goal.returns-then-length_of-length-clause-others
 returns-then-length_of-length-clause-others c =
@@ -46,7 +46,7 @@ returns-then-length_of-length-clause-others c =
     let long : (path : List (List ℕ)) → StandsAt t path c.args.file → IsLongAt t.nodes path c.length_of.result = c.length_of.ensures in
     let h : HasExtents t.nodes c.args.file c.requires.file.0 = subst (λ (t : FileTree). HasExtents t.nodes c.args.file c.requires.file.0) (sym c.self.view_is) c.requires.file.1 in
     let next : FileTree = with_nodes c.self.inside c.change.new.self.nodes c.change.new.self.spare in
-    subst (λ (t : FileTree). OthersLie c.args.file t next) c.self.view_is (relaid_others t next c.self.invariant c.args.file c.args.at c.requires.file.0 h (λ laid. resized laid c.args.length) c.change.ensures.changed refl refl)
+    subst (λ (t : FileTree). OthersLie c.args.file t next) c.self.view_is (relaid_others t next c.self.invariant c.args.file c.args.at c.requires.file.0 h (λ laid. resized laid c.args.length) c.change.ensures.changed refl refl refl)
 
 pub returns-else-length_of-length-clause-plain : goal.returns-else-length_of-length-clause-plain
 returns-else-length_of-length-clause-plain c =
@@ -60,4 +60,4 @@ returns-then-length_of-length-clause-blocks c =
     let t : FileTree = tree_of c.self.inside in
     let h : HasExtents t.nodes c.args.file c.requires.file.0 = subst (λ (t : FileTree). HasExtents t.nodes c.args.file c.requires.file.0) (sym c.self.view_is) c.requires.file.1 in
     let next : FileTree = with_nodes c.self.inside c.change.new.self.nodes c.change.new.self.spare in
-    subst (λ (t : FileTree). AddsNoBlock t next) c.self.view_is (length_adds t next c.self.invariant c.args.file c.args.at c.requires.file.0 h c.args.length c.change.ensures.changed refl refl)
+    subst (λ (t : FileTree). AddsNoBlock t next) c.self.view_is (length_adds t next c.self.invariant c.args.file c.args.at c.requires.file.0 h c.args.length c.change.ensures.changed refl refl refl)
