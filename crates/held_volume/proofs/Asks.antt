@@ -5,7 +5,7 @@ use Rattle.std.specs.FinMap as fin
 use Rattle.std.proofs.lemmas.Bool.Decides.{nat_tests}
 use Rattle.tape_types.specs.declared.moments.Moment.{Moment}
 use Rattle.plain_tree.specs.Paths.{Path, same_path}
-use Rattle.plain_tree.specs.Refusals.{new_refusal, refusal_of}
+use Rattle.plain_tree.specs.Refusals.{lock_refusal, new_refusal, or_else, refusal_of, refusal_within}
 use Rattle.plain_tree.specs.Tree as plain
 use Rattle.plain_tree.specs.Tree.{cells_at}
 use Rattle.plain_tree.specs.declared.calls.Call.{Call}
@@ -35,7 +35,11 @@ use Rattle.held_volume.proofs.Lies.{path_of, plain_there}
 use Rattle.held_volume.proofs.TreeSteps.{changed_as}
 use Rattle.held_volume.proofs.Uids.{length_mark}
 
-abbrev IsNoRead : Call → Type 0
+-- a call that the lock doesn't refuse is refused by the other checks alone
+pub unlocked_refusal : (t : plain.Tree) (call : Call) → lock_refusal t.lock call ≡ None → refusal_of t call ≡ refusal_within t call
+unlocked_refusal t call free = ap (λ r. or_else r (refusal_within t call)) free
+
+abbrev pub IsNoRead : Call → Type 0
 IsNoRead call = (path : Path) (offset count : ℕ) → call ≡ asks.Read path offset count → ⊥
 
 -- a call that isn't refused where no byte is lost isn't refused on any tape, but for reads
@@ -44,20 +48,21 @@ unrefused tape t tree call other free is = ap (λ tree. refusal_of tree call) (s
 
 module _ (before next : FileTree) (at : Moment) where
   -- a step of a call that asks for a change where it isn't refused, and lays no file anew
-  pub step_changes : (call : Call) → IsNoRead call → may_lay_anew call ≡ false → ((g : Given) (st : Standing) → ask_unrefused g st call at ≡ change)
+  pub step_changes : (call : Call) → IsNoRead call → may_lay_anew call ≡ false
+      → ((tape : Tape) (g : Given) (st : Standing) → plain_of tape before ≡ st.tree → ask_unrefused g st call at ≡ change)
       → refusal_of (plain_of whole before) call ≡ None → IsStep call at before next → IsChanging call at before next
   step_changes call other lays asked free step = record {
     plain = step.plain;
     volume = step.volume;
     blocks = step.blocks;
-    asks = λ tape g st is. ap (λ r. ask_unless r (ask_unrefused g st call at)) (unrefused tape before st.tree call other free is) ∙ asked g st;
+    asks = λ tape g st is. ap (λ r. ask_unless r (ask_unrefused g st call at)) (unrefused tape before st.tree call other free is) ∙ asked tape g st is;
     lies = λ tape g on st is held. subst (λ (files : Files). LieAs files next) (sym (ask_plainly.files g on st call change lays)) (step.lies st.files held);
   }
 
   -- a rename of a path to another one changes the tree and stores nothing
   pub rename_changes : (from to : Path) → same_path from to ≡ false → refusal_of (plain_of whole before) (asks.Rename from to) ≡ None → IsStep (asks.Rename from to) at before next → IsChanging (asks.Rename from to) at before next
   rename_changes from to apart free step =
-      step_changes (asks.Rename from to) (λ p o c e. cc) refl (λ g st. ap (λ b. cond b nothing change) apart) free step
+      step_changes (asks.Rename from to) (λ p o c e. cc) refl (λ tape g st is. ap (λ b. cond b nothing change) apart) free step
 
 -- ---- calls that ask nothing
 
@@ -127,20 +132,23 @@ module _ (t : FileTree) (path : Path) (file : ℕ) (room : Room) (size : ℕ) (a
 
 -- ---- new nodes
 
--- a node is made by this call alone, which is refused as any new node is
-pub made_refusal : (t : plain.Tree) (sort : Sort) (path : Path) (call : Call) → making sort path ≡ Some call → refusal_of t call ≡ new_refusal t path
-made_refusal t sorts.Dir path call is = ap (refusal_of t) (sym (some_same (asks.Mkdir path) call is))
-made_refusal t sorts.File path call is = ap (refusal_of t) (sym (some_same (asks.Create path) call is))
-made_refusal t sorts.Link path call is = let wrong : None ≡ Some call = is in cc
+-- a node is made by this call alone, which is refused as any new node is where the lock doesn't refuse it
+pub made_refusal : (t : plain.Tree) (sort : Sort) (path : Path) (call : Call) → lock_refusal t.lock call ≡ None → making sort path ≡ Some call → refusal_of t call ≡ new_refusal t path
+made_refusal t sort path call free is = unlocked_refusal t call free ∙ by sort is
+  where
+    by : (s : Sort) → making s path ≡ Some call → refusal_within t call ≡ new_refusal t path
+    by sorts.Dir is = ap (refusal_within t) (sym (some_same (asks.Mkdir path) call is))
+    by sorts.File is = ap (refusal_within t) (sym (some_same (asks.Create path) call is))
+    by sorts.Link is = let wrong : None ≡ Some call = is in cc
 
 -- a new directory and a new file are changes
 dir_changes : (before next : FileTree) (at : Moment) (path : Path) → refusal_of (plain_of whole before) (asks.Mkdir path) ≡ None → IsStep (asks.Mkdir path) at before next
     → IsChanging (asks.Mkdir path) at before next
-dir_changes before next at path free step = step_changes before next at (asks.Mkdir path) (λ p o c e. cc) refl (λ g st. refl) free step
+dir_changes before next at path free step = step_changes before next at (asks.Mkdir path) (λ p o c e. cc) refl (λ tape g st is. refl) free step
 
 file_changes : (before next : FileTree) (at : Moment) (path : Path) → refusal_of (plain_of whole before) (asks.Create path) ≡ None → IsStep (asks.Create path) at before next
     → IsChanging (asks.Create path) at before next
-file_changes before next at path free step = step_changes before next at (asks.Create path) (λ p o c e. cc) refl (λ g st. refl) free step
+file_changes before next at path free step = step_changes before next at (asks.Create path) (λ p o c e. cc) refl (λ tape g st is. refl) free step
 
 -- so what was made is tried
 pub dir_tried : {E : Type 0} (before next : FileTree) (at : Moment) (path : Path) (r : Result (Result Bool Refusal) E) → IfOk r (λ made. (call : Call) → making sorts.Dir path ≡ Some call → IsMade call at before next made)
@@ -161,7 +169,7 @@ file_tried before next at path (Err e) made = tt
 -- a node that is taken out is a change
 pub removed_changes : (before next : FileTree) (at : Moment) (path : Path) → refusal_of (plain_of whole before) (asks.Remove path) ≡ None → IsStep (asks.Remove path) at before next
     → IsChanging (asks.Remove path) at before next
-removed_changes before next at path free step = step_changes before next at (asks.Remove path) (λ p o c e. cc) refl (λ g st. refl) free step
+removed_changes before next at path free step = step_changes before next at (asks.Remove path) (λ p o c e. cc) refl (λ tape g st is. refl) free step
 
 -- ---- what is refused at once
 
@@ -175,11 +183,11 @@ below_root : (n : ℕ) → (suc n == 0) ≡ false
 below_root n = grind (arith, nat_tests)
 
 -- no node is moved there
-to_root : (t : plain.Tree) (from : Path) → refusal_of t (asks.Rename from []) ≡ Some refusals.Root
+to_root : (t : plain.Tree) (from : Path) → refusal_within t (asks.Rename from []) ≡ Some refusals.Root
 to_root t [] = refl
 to_root t (name ∷ from) = rw (below_root (length from)) refl
 
 -- so a rename whose path has no name is refused
-pub none_to_root : (t : plain.Tree) (from to : Path) → length to ≡ 0 → refusal_of t (asks.Rename from to) ≡ Some refusals.Root
-none_to_root t from [] is = to_root t from
-none_to_root t from (name ∷ to) is = absurd (omega (arith, is))
+pub none_to_root : (t : plain.Tree) (from to : Path) → lock_refusal t.lock (asks.Rename from to) ≡ None → length to ≡ 0 → refusal_of t (asks.Rename from to) ≡ Some refusals.Root
+none_to_root t from [] free is = unlocked_refusal t (asks.Rename from []) free ∙ to_root t from
+none_to_root t from (name ∷ to) free is = absurd (omega (arith, is))

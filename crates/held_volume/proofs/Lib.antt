@@ -15,3 +15,4 @@ pub mod MountLaws
 pub mod TellLaws
 pub mod CloseLemmas
 pub mod VolumeSync
+pub mod KeySteps

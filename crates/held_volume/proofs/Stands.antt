@@ -16,7 +16,7 @@ use Rattle.extent_map.specs.Cells.{Tape}
 use Rattle.extent_map.specs.Laid.{overlaid}
 use Rattle.plain_tree.specs.Calls.{after}
 use Rattle.plain_tree.specs.Paths.{Path, last_name}
-use Rattle.plain_tree.specs.Refusals.{no_file, refusal_of}
+use Rattle.plain_tree.specs.Refusals.{lock_refusal, no_file, or_else, refusal_of, refusal_within}
 use Rattle.plain_tree.specs.Tree as plain
 use Rattle.plain_tree.specs.declared.calls.Call.{Call}
 use Rattle.plain_tree.specs.declared.calls.Call.TheVariants as asks
@@ -320,6 +320,10 @@ pub refused_too : (early : Tape) (t : FileTree) (tree : plain.Tree) (call : Call
 refused_too early t tree call refusal is told =
     ap (λ t. refusal_of t call) (sym is) ∙ ⊎_elim (λ (same : refusal_of (plain_of early t) call ≡ refusal_of (plain_of whole t) call). same ∙ told)
     (λ lost. absurd (let wrong : None ≡ Some refusal = sym lost.1 ∙ told in cc)) (refusals_alike early t call)
+
+-- a call that the lock refuses is refused
+pub locked_out : (early : Tape) (t : FileTree) (tree : plain.Tree) (call : Call) (refusal : Refusal) → plain_of early t ≡ tree → Some refusal ≡ lock_refusal t.lock call → refusal_of tree call ≡ Some refusal
+locked_out early t tree call refusal is told = ap (λ t. refusal_of t call) (sym is) ∙ ap (λ r. or_else r (refusal_within (plain_of early t) call)) (sym told)
 
 -- what is told of a write that the tree doesn't refuse
 pub write_told : (early : Tape) (g : Given) (on : Bool) (st : Standing) (call : Call) (at : Moment) (old new : Stocked) → refusal_of (plain_of whole old.tree) call ≡ None

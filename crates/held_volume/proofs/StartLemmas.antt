@@ -24,7 +24,7 @@ use Rattle.tape_types.specs.declared.cartridges.Limits.{Limits}
 use Rattle.tape_layout.specs.Plans.{Plan, plan}
 use Rattle.cartridge_meaning.specs.declared.mounted.Mounted.{Mounted}
 use Rattle.space_laws.specs.Files.{laid_found, laid_node, letters, mounted_files, root_name}
-use Rattle.space_laws.specs.Mount.{MountFacts}
+use Rattle.space_laws.specs.Mount.{MountFacts, was_sealed}
 use Rattle.space_laws.specs.Standing.{Given, first_standing}
 use Rattle.held_volume.specs.declared.volume_sync.frames.Frame.{Frame}
 use Rattle.held_volume.specs.Mounted.{CanStart, StartsFrom, letters_of, mounted_ends}
@@ -109,7 +109,7 @@ module _ (m : MountFacts) (t : FileTree) (mounts : CanMount m.index (letters m) 
 -- what a mount finds is held as what stands first, on any tape
 pub start_stands : (limits : Limits) (m : Mounted) → CanStart limits m → (t : FileTree) → IsTreeOf (letters_of m) m.label.block m.index t → (l : Plan)
     → l ≡ plan limits m.label.block (mounted_ends m) [] false m.ip_on
-    → (f : Frame) → f ≡ record { label = m.label; carried = Rattle.file_tree.specs.Carried.carried_of m.index; generation = m.newest; last_dp = m.last_dp; changed = false; dp_done = m.dp_done; ip_done = m.ip_done; noted = m.noted }
+    → (f : Frame) → f ≡ record { label = m.label; carried = Rattle.file_tree.specs.Carried.carried_of m.index; sealed = was_sealed m.index; generation = m.newest; last_dp = m.last_dp; changed = false; dp_done = m.dp_done; ip_done = m.ip_done; noted = m.noted }
     → (tape : Tape) (g : Given) → StartsFrom tape limits m g → IsStock tape g m.ip_on (first_standing g) (stocked t l f)
 start_stands limits m can t is l l_is f f_is tape g from =
     let facts : MountFacts = record { label = m.label; index = m.index; newest = m.newest; ends = mounted_ends m; last_dp = m.last_dp; ip_on = m.ip_on; dp_done = m.dp_done; ip_done = m.ip_done } in

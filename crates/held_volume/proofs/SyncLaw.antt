@@ -12,6 +12,7 @@ use Rattle.index_model.specs.Valid.{IsFitVolume, IsSpot}
 use Rattle.plain_tree.specs.Tree as plain
 use Rattle.plain_tree.proofs.MoveLemmas.{both_true}
 use Rattle.file_tree.specs.Indexes.{TellsTree}
+use Rattle.file_tree.specs.Locks.{told_lock}
 use Rattle.file_tree.proofs.IndexLemmas.{indexes_come_back}
 use Rattle.space_laws.specs.Files.{letters}
 use Rattle.held_volume.specs.Synced.{SyncsTellTheTree, index_of_sync}
@@ -44,6 +45,7 @@ synced_tells tape g on st s at i good can =
     let tells : TellsTree (letters g.mounted) s.tree (index_of_sync g st at) = record {
       nodes = sym (nodes_are tape g on st s i at);
       highest = sym (ap (λ (t : plain.Tree). t.highest) i.plain);
+      lock = sym (ap (λ (t : plain.Tree). told_lock t.lock) i.plain);
     } in
     let fit : IsFitVolume (index_of_sync g st at) = record {
       creator = creator_plain;

@@ -11,6 +11,7 @@ use Rattle.plain_tree.specs.Tree as plain
 use Rattle.plain_tree.specs.declared.nodes.Node as plain_node
 use Rattle.extent_map.specs.Cells.{Tape, file_cells}
 use Rattle.file_tree.specs.Carried.{index_of_tree}
+use Rattle.file_tree.specs.Locks.{told_lock}
 use Rattle.file_tree.specs.Mounts.{Letters}
 use Rattle.file_tree.specs.Told as file_told
 use Rattle.file_tree.specs.Told.{letter_of, raw_of}
@@ -78,7 +79,7 @@ module _ (tape : Tape) (g : Given) (on : Bool) (st : Standing) (s : Stocked) (i 
   index_told generation part end back =
       ap (λ (f : Frame). index_of_tree (letters_of f) (heading_of f generation (letter_of (letters_of f) part) end back at) f.carried s.tree) i.frame
       ∙ ap (λ nodes. record (index_at g.mounted (plain_of tape s.tree) st.files generation at part (end + 1) back) { nodes = nodes }) nodes_are
-      ∙ ap (λ (t : plain.Tree). record (index_now generation part (end + 1) back) { highest = t.highest }) i.plain
+      ∙ ap (λ (t : plain.Tree). record (index_now generation part (end + 1) back) { lock = told_lock t.lock; highest = t.highest }) i.plain
 
   -- the text of a sync's index is the one that the space tells
   pub text_is : canon (sync_index s.frame s.tree s.layout.ends.dp at) ≡ sync_text g st at

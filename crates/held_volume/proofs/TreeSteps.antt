@@ -1,6 +1,7 @@
 -- What the calls on the tree leave, as steps.
-use Rattle.std.proofs.Common.{◌≡◌, ◌≢◌, ℕ, ◌+◌, ◌<◌, ◌≤◌, true, false, cond, eqb, Some, None, sym, ap, ◌∙◌, refl, subst, arith, ⊎_elim}
+use Rattle.std.proofs.Common.{◌≡◌, ◌≢◌, ℕ, ◌+◌, ◌<◌, ◌≤◌, true, false, cond, eqb, Option, Some, None, sym, ap, ◌∙◌, refl, subst, arith, ⊎_elim}
 use Rattle.std.specs.FinMap as fin
+use Rattle.std.specs.Option.{option_map}
 use Rattle.std.proofs.lemmas.Bool.Decides.{nat_tests}
 use Rattle.tape_types.specs.declared.moments.Moment.{Moment}
 use Rattle.plain_tree.specs.Calls.{after, with_rename, without}
@@ -9,16 +10,19 @@ use Rattle.plain_tree.specs.Refusals.{refusal_of}
 use Rattle.plain_tree.specs.Tree as plain
 use Rattle.plain_tree.specs.Tree.{change_noted, changed_at, touch}
 use Rattle.plain_tree.specs.Valid.{mark_at, mark_of, is_dir}
+use Rattle.plain_tree.specs.declared.calls.Call.{Call}
 use Rattle.plain_tree.specs.declared.calls.Call.TheVariants as asks
 use Rattle.extent_map.specs.Cells.{Tape}
 use Rattle.extent_map.specs.Laid.{Laid, Room}
 use Rattle.file_tree.specs.declared.nodes.Node.{Node}
+use Rattle.file_tree.specs.declared.nodes.HeldKind.{HeldKind}
 use Rattle.file_tree.specs.declared.nodes.HeldKind.TheVariants as kinds
 use Rattle.file_tree.specs.Blocks.{AddsNoBlock}
-use Rattle.file_tree.specs.Edits.{AllLie, IsAfter, KeepsVolume, NumbersCome, OthersLie}
+use Rattle.file_tree.specs.Edits.{AllLie, IsAfter, KeepsOutline, KeepsVolume, NumbersCome, OthersLie, outline}
 use Rattle.file_tree.specs.Tree.{FileTree, HasLaid, StandsAt, number_at, plain_node_of, plain_nodes, plain_of, whole}
 use Rattle.file_tree.specs.Valid.{IsGood}
 use Rattle.file_tree.proofs.BlockLemmas.{one_laid}
+use Rattle.file_tree.proofs.OutlineLemmas.{outlines_keep_files}
 use Rattle.file_tree.proofs.PathLemmas.{node_at, number_is, some_same}
 use Rattle.file_tree.proofs.TreeLemmas.{after_free}
 use Rattle.space_laws.specs.Files.{Files}
@@ -113,10 +117,12 @@ roomier before next good plain_is numbers lie adds volume = record {
       (ap (λ (t : plain.Tree). t.highest) (plain_is whole)) volume;
 }
 
--- the same nodes
-pub same_nodes : (before next : FileTree) → next.nodes ≡ before.nodes → next.highest ≡ before.highest → KeepsVolume before next → IsSameTree before next
-same_nodes before next nodes highest volume = record {
-  plain = λ tape. ap (λ h. record { highest = h; nodes = plain_nodes tape next.nodes }) highest ∙ ap (λ m. record { highest = before.highest; nodes = plain_nodes tape m }) nodes;
+-- the same nodes under the same lock
+pub same_nodes : (before next : FileTree) → next.nodes ≡ before.nodes → next.highest ≡ before.highest → next.lock ≡ before.lock → KeepsVolume before next → IsSameTree before next
+same_nodes before next nodes highest state volume = record {
+  plain = λ tape. ap (λ h. record { highest = h; lock = next.lock; nodes = plain_nodes tape next.nodes }) highest
+      ∙ ap (λ l. record { highest = before.highest; lock = l; nodes = plain_nodes tape next.nodes }) state
+      ∙ ap (λ m. record { highest = before.highest; lock = before.lock; nodes = plain_nodes tape m }) nodes;
   volume = volume;
   blocks = λ part pos h. record { number = h.number; laid = h.laid; file = subst (λ m. HasLaid m h.number h.laid) nodes h.file; block = h.block };
   lies = λ files held. record {
@@ -127,16 +133,40 @@ same_nodes before next nodes highest volume = record {
 
 -- a tree is the same as itself
 pub unchanged : (t : FileTree) → IsSameTree t t
-unchanged t = same_nodes t t refl refl (record { name = refl; block_size = refl })
+unchanged t = same_nodes t t refl refl refl (record { name = refl; block_size = refl })
 
 -- a step from a tree that is the same is a step from the other
-pub step_from : (old before next : FileTree) (call : Rattle.plain_tree.specs.declared.calls.Call.Call) (at : Moment) → IsSameTree old before → IsStep call at before next → IsStep call at old next
+pub step_from : (old before next : FileTree) (call : Call) (at : Moment) → IsSameTree old before → IsStep call at before next → IsStep call at old next
 step_from old before next call at same step = record {
   plain = λ tape. step.plain tape ∙ ap (λ t. after t call at) (same.plain tape);
   volume = record { name = step.volume.name ∙ same.volume.name; block_size = step.volume.block_size ∙ same.volume.block_size };
   blocks = λ part pos h. same.blocks part pos (step.blocks part pos h);
   lies = λ files held. step.lies files (same.lies files held);
 }
+
+-- ---- the outline stays
+
+module _ (before next : FileTree) (keeps : KeepsOutline before next) where
+  outlined_as : (files : Files) → LieAs files before → LieAs files next
+  outlined_as files held = record {
+    lies = λ path node room there file. by path node room there file (fin.get before.nodes path) refl;
+    fresh = λ uid more. held.fresh uid (omega (arith, more, keeps.highest)) ∙ ap no_bytes (sym keeps.volume.block_size);
+  }
+    where
+      by : (path : Path) (node : Node) (room : Room) → fin.get next.nodes path ≡ Some node → node.kind ≡ kinds.File room → (o : Option Node) → fin.get before.nodes path ≡ o → files node.uid ≡ room.laid
+      by path node room there file None e =
+          let wrong : None ≡ Some (outline node) = sym (ap (option_map outline) e) ∙ sym (keeps.nodes path) ∙ ap (option_map outline) there in absurd cc
+      by path node room there file (Some old) e =
+          let same : outline old ≡ outline node = some_same (outline old) (outline node) (sym (ap (option_map outline) e) ∙ sym (keeps.nodes path) ∙ ap (option_map outline) there) in
+          ap (λ (o : ℕ × ℕ × HeldKind). files o.1) (sym same) ∙ held.lies path old room e (ap (λ (o : ℕ × ℕ × HeldKind). o.2) same ∙ file)
+
+  -- a call that leaves the outline as it was changes no extent
+  pub outline_step : (call : Call) (at : Moment) → IsAfter call at before next → IsStep call at before next
+  outline_step call at done = record { plain = done; volume = keeps.volume; blocks = outlines_keep_files.blocks before next keeps; lies = outlined_as }
+
+  -- and where the plain tree is the same too, the tree is
+  pub outline_same : ((tape : Tape) → plain_of tape next ≡ plain_of tape before) → IsSameTree before next
+  outline_same same = record { plain = same; volume = keeps.volume; blocks = outlines_keep_files.blocks before next keeps; lies = outlined_as }
 
 -- ---- one file lies otherwise
 

@@ -16,7 +16,7 @@ use Rattle.plain_tree.specs.declared.nodes.Node.{Node}
 use Rattle.plain_tree.proofs.MoveLemmas.{below_split, moved_below, moved_other, not_true}
 use Rattle.plain_tree.proofs.NodeLemmas.{changed_found, changed_missing}
 use Rattle.plain_tree.proofs.SeenLemmas.{unlike}
-use Rattle.plain_tree.proofs.Validity.{file_mark, rename_target, valid_free}
+use Rattle.plain_tree.proofs.Validity.{file_mark, free_within, rename_target, valid_free}
 use Rattle.plain_tree.proofs.WriteLemmas.{rename_keeps_nodes}
 use Rattle.file_tree.proofs.PathLemmas.{get_here, get_other, gone_other, is_or_not}
 
@@ -100,7 +100,7 @@ module _ (t : Tree) (from to : Path) (at : Moment) (valid : IsValid t) (free : r
           ∙ ap holding (ap (fin.get t.nodes) (sym (below_split from p e)) ∙ there))
       by false e =
           let away : is_at_or_below to p ≡ false = not_true (is_at_or_below to p) (λ below.
-          unlike (fin.get t.nodes p) n (valid_free t valid to (rename_target t.nodes from to free apart).0 p below) there) in
+          unlike (fin.get t.nodes p) n (valid_free t valid to (rename_target t.nodes from to (free_within t (Rename from to) free).1 apart).0 p below) there) in
           ap uid_held (
           sym (ap holding (sym (ap (fin.get next) (moved_other from to p e)) ∙ here))
           ∙ moved.elsewhere p e away

@@ -13,7 +13,7 @@ use Rattle.tape_layout.specs.Ops.{end_of}
 use Rattle.tape_layout.specs.Plans.{Plan}
 use Rattle.tape_layout.specs.declared.standing.Ends as layout
 use Rattle.space_laws.specs.Files.{Files, root_name}
-use Rattle.space_laws.specs.Mount.{MountFacts}
+use Rattle.space_laws.specs.Mount.{MountFacts, was_sealed}
 use Rattle.space_laws.specs.Space.{Space, plan_of}
 use Rattle.space_laws.specs.Standing.{Given, Standing, rules}
 use Rattle.held_volume.specs.declared.volume_sync.frames.Frame.{Frame}
@@ -37,11 +37,13 @@ pub record LieAs (files : Files) (t : FileTree) : Type 0 where
       → files node.uid ≡ room.laid
   pub fresh : (uid : ℕ) → t.highest < uid → files uid ≡ no_bytes t.block_size
 
--- what the next index stands on: the label and the carried facts as they were mounted, and the rest as the space has it
+-- what the next index stands on: the label, the carried facts and whether the volume is sealed as they were mounted,
+-- and the rest as the space has it
 abbrev pub frame_of : MountFacts → Space → Bool → Frame
 frame_of m space noted = record {
   label = m.label;
   carried = carried_of m.index;
+  sealed = was_sealed m.index;
   generation = space.newest;
   last_dp = space.last_dp;
   changed = space.changed;

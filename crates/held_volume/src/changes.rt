@@ -2,7 +2,7 @@
 
 ghost use Rattle.std.specs.Prelude.{◌≡◌, None, Some, OnErr, IfOk};
 ghost use Rattle.plain_tree.specs.Paths.{Path};
-ghost use Rattle.plain_tree.specs.Refusals.{refusal_of};
+ghost use Rattle.plain_tree.specs.Refusals.{lock_refusal, refusal_of};
 ghost use Rattle.plain_tree.specs.declared.calls.Call.{Call as Asked};
 ghost use Rattle.plain_tree.specs.declared.calls.Call.TheVariants as asks;
 ghost use Rattle.file_tree.specs.Edits.{CanMake, making};
@@ -23,7 +23,8 @@ pub fn make(
     sort: Sort,
     at: Moment,
 ) -> Result<Result<bool, Refusal>, NoMemory>
-    requires { (call : Asked) × (making sort path.now ≡ Some call) }
+    requires makes { (call : Asked) × (making sort path.now ≡ Some call) }
+    requires unlocked { (call : Asked) → making sort path.now ≡ Some call → lock_refusal tree.old.lock call ≡ None }
     ensures ok { IfOk result (λ made. (call : Asked) → making sort path.now ≡ Some call
         → IsMade call at tree.old tree.new made) }
     ensures err { OnErr result (IsSameTree tree.old tree.new) }
@@ -55,6 +56,7 @@ fn make_in(tree: &mut Tree, dir: u32, name: Text, sort: Sort, at: Moment)
 
 /// Takes out a file, a link or an empty directory, unless that is refused. Takes no memory.
 pub fn remove(tree: &mut Tree, path: &[Text], at: Moment) -> Result<bool, Refusal>
+    requires { lock_refusal tree.old.lock (asks.Remove path.now) ≡ None }
     ensures { IsTried (asks.Remove path.now) at tree.old tree.new result }
 {
     match bare_at(tree, path) {
@@ -76,6 +78,7 @@ pub fn rename(
     to: &[Text],
     at: Moment,
 ) -> Result<Result<bool, Refusal>, NoMemory>
+    requires { lock_refusal tree.old.lock (asks.Rename from.now to.now) ≡ None }
     ensures ok { IfOk result (IsTried (asks.Rename from.now to.now) at tree.old tree.new) }
     ensures err { OnErr result (tree.new ≡ tree.old) }
 {
@@ -99,6 +102,7 @@ pub fn rename(
 
 /// Sets the length of a file, unless that is refused or the file has it. Takes no memory.
 pub fn truncate(tree: &mut Tree, path: &[Text], length: u64, at: Moment) -> Result<bool, Refusal>
+    requires { lock_refusal tree.old.lock (asks.Truncate path.now length) ≡ None }
     ensures { IsTried (asks.Truncate path.now length) at tree.old tree.new result }
 {
     match long_file_at(tree, path, length, 0) {

@@ -1,9 +1,11 @@
 //! What a volume holds while it is served: its tree, what is admitted for the tape, and what its next index stands on.
 #![tactic(auto)]
 
+mod attributes;
 mod changes;
 mod closings;
 mod laws;
+mod locks;
 mod looks;
 mod stocks;
 mod syncs;

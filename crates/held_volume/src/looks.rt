@@ -49,6 +49,23 @@ pub fn stat(tree: &Tree, alloc: Global, path: &[Text]) -> Result<Answer, NoMemor
     }
 }
 
+/// What a key of the node at a path is answered.
+pub fn get_key(tree: &Tree, alloc: Global, path: &[Text], key: &Text) -> Result<Answer, NoMemory>
+    ensures { IfOk result (λ a. (tape : Tape) → a ≡ answer (plain_of tape tree.now) (Call.Getx path.now key.now)) }
+{
+    match tree.find(path) {
+        Found::Node(number) => match tree.get_key(number, key.as_str()) {
+            Some(value) => match value.try_clone(alloc) {
+                Ok(copy) => Ok(Answer::Got(copy)),
+                Err(e) => Err(e),
+            },
+            None => Ok(Answer::Refused(Refusal::NoKey)),
+        },
+        Found::Missing => Ok(Answer::Refused(Refusal::NotFound)),
+        Found::NotDir => Ok(Answer::Refused(Refusal::NotDir)),
+    }
+}
+
 /// The pieces of at most so many bytes of a file from an offset on, up to its end.
 pub fn plan(
     tree: &Tree,

@@ -1,6 +1,6 @@
 //! What is held of a volume.
 
-ghost use Rattle.std.specs.Prelude.{◌≡◌, ◌≤◌, ◌^◌, [], ◌∷◌, Bool, true, drop, length};
+ghost use Rattle.std.specs.Prelude.{◌≡◌, ◌≤◌, ◌^◌, [], ◌∷◌, Bool, None, true, drop, length};
 ghost use Rattle.std.specs.Prelude.{OnErr, IfErr, IfOk, IfSome, MatchOption};
 ghost use Rattle.std.specs.Option.{option_map};
 ghost use Rattle.extent_map.specs.Cells.{Tape};
@@ -8,6 +8,7 @@ ghost use Rattle.space_laws.specs.Standing.{Given, Standing, first_standing, rul
 ghost use Rattle.held_volume.specs.Mounted.{CanStart, StartsFrom, letters_of};
 ghost use Rattle.plain_tree.specs.Calls.{answer, call_of_change};
 ghost use Rattle.plain_tree.specs.Paths.{Path};
+ghost use Rattle.plain_tree.specs.Refusals.{lock_refusal};
 ghost use Rattle.file_tree.specs.Mounts.{IsTreeOf};
 ghost use Rattle.file_tree.specs.Tree.{plain_of};
 ghost use Rattle.file_tree.specs.Valid.{IsGood};
@@ -18,9 +19,11 @@ ghost use Rattle.held_volume.specs.Reads.{IsPlanOfAtMost, IsReadPlan, IsReadable
 ghost use Rattle.held_volume.specs.Stocks.{IsStock, stocked};
 ghost use Rattle.held_volume.specs.Syncs.{BringsAtMost, IsDocument};
 
+use crate::attributes::{drop_key, set_key, set_readonly};
 use crate::changes::{make, remove, rename, truncate};
 use crate::closings::{ClosingTexts, admit_on_ip, closing_texts};
-use crate::looks::{list, plan, stat};
+use crate::locks::{is_sealed, lock_volume, locked, seal_volume, unlock_volume};
+use crate::looks::{get_key, list, plan, stat};
 use crate::syncs::{admit_due, due_document, most_ops};
 use crate::volume_sync::Frame;
 use crate::writes::write;
@@ -75,6 +78,7 @@ impl Stock {
         // The tree is good.
         let _count = tree.count();
         let carried = Carried::of_index(alloc, &mounted.index)?;
+        let sealed = is_sealed(tree.lock());
         let layout = Layout::new(
             alloc,
             limits,
@@ -86,6 +90,7 @@ impl Stock {
         let frame = Frame {
             label: mounted.label,
             carried,
+            sealed,
             generation: mounted.newest,
             last_dp: mounted.last_dp,
             changed: false,
@@ -101,8 +106,8 @@ impl Stock {
         })
     }
 
-    /// Makes a change at a moment, and tells why the tree refuses it. A change that is refused, and one that doesn't fit
-    /// on the tape, leaves all as it was, and so does one for which memory is refused.
+    /// Makes a change at a moment, and tells why the lock or the tree refuses it. A change that is refused, and one
+    /// that doesn't fit on the tape, leaves all as it was, and so does one for which memory is refused.
     pub fn apply(&mut self, change: Change<'_>, at: Moment) -> Result<Option<Refusal>, AdmitErr>
         ensures applied { (early : Tape) (g : Given) (on : Bool) (st : Standing) → IsStock early g on st self.old
             → IsApplied early g on st (call_of_change change.entry) at self.old self.new result }
@@ -223,6 +228,14 @@ impl Stock {
         list(&self.tree, self.alloc, path)
     }
 
+    /// What a key of the node at a path is answered.
+    pub fn get_key(&self, path: &[Text], key: &Text) -> Result<Answer, NoMemory>
+        ensures { IfOk result (λ a. (tape : Tape)
+            → a ≡ answer (plain_of tape self.now.tree) (Call.Getx path.now key.now)) }
+    {
+        get_key(&self.tree, self.alloc, path, key)
+    }
+
     /// What is told of the node at a path.
     pub fn stat(&self, path: &[Text]) -> Result<Answer, NoMemory>
         ensures { IfOk result (λ a. (tape : Tape) → a ≡ answer (plain_of tape self.now.tree) (Call.Stat path.now)) }
@@ -276,6 +289,29 @@ fn apply(
     ensures leaves { LeavesAll (stocked tree.old layout.old frame.old) (stocked tree.new layout.new frame.new) result }
     ensures generation { frame.new.generation ≡ frame.old.generation }
 {
+    match locked(tree.lock(), change) {
+        Some(refusal) => Ok(Some(refusal)),
+        None => apply_unlocked(alloc, tree, layout, frame, change, at),
+    }
+}
+
+/// The same of a change that the lock doesn't refuse.
+fn apply_unlocked(
+    alloc: Global,
+    tree: &mut Tree,
+    layout: &mut Layout,
+    frame: &mut Frame,
+    change: Change<'_>,
+    at: Moment,
+) -> Result<Option<Refusal>, AdmitErr>
+    requires { lock_refusal tree.old.lock (call_of_change change) ≡ None }
+    ensures applied { (early : Tape) (g : Given) (on : Bool) (st : Standing)
+        → IsStock early g on st (stocked tree.old layout.old frame.old)
+        → IsApplied early g on st (call_of_change change.entry) at (stocked tree.old layout.old frame.old)
+        (stocked tree.new layout.new frame.new) result }
+    ensures leaves { LeavesAll (stocked tree.old layout.old frame.old) (stocked tree.new layout.new frame.new) result }
+    ensures generation { frame.new.generation ≡ frame.old.generation }
+{
     match change {
         Change::Mkdir(path) => note(frame, make(tree, alloc, path, Sort::Dir, at)),
         Change::Create(path) => note(frame, make(tree, alloc, path, Sort::File, at)),
@@ -283,6 +319,12 @@ fn apply(
         Change::Truncate(path, length) => note(frame, Ok(truncate(tree, path, length, at))),
         Change::Rename(from, to) => note(frame, rename(tree, alloc, from, to, at)),
         Change::Remove(path) => note(frame, Ok(remove(tree, path, at))),
+        Change::Setx(path, key, bytes) => note(frame, set_key(tree, alloc, path, key, bytes, at)),
+        Change::Dropx(path, key) => note(frame, Ok(drop_key(tree, path, key, at))),
+        Change::Readonly(path, on) => note(frame, Ok(set_readonly(tree, path, on, at))),
+        Change::LockVolume => note(frame, Ok(Ok(lock_volume(tree, at)))),
+        Change::UnlockVolume => note(frame, Ok(Ok(unlock_volume(tree, at)))),
+        Change::PermLock => note(frame, Ok(Ok(seal_volume(tree, at)))),
     }
 }
 

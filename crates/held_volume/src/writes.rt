@@ -6,7 +6,7 @@ ghost use Rattle.extent_map.specs.Laid.{Room};
 ghost use Rattle.tape_layout.specs.PlacementPolicy.Computed.{chooses_ip as chosen_for};
 ghost use Rattle.plain_tree.specs.Paths as paths;
 ghost use Rattle.plain_tree.specs.Paths.{Path};
-ghost use Rattle.plain_tree.specs.Refusals.{refusal_of};
+ghost use Rattle.plain_tree.specs.Refusals.{lock_refusal, refusal_of};
 ghost use Rattle.plain_tree.specs.Tree.{cells_at};
 ghost use Rattle.file_tree.specs.Edits.{CanWrite};
 ghost use Rattle.file_tree.specs.Tree.{HasExtents, StandsAt, plain_of, whole};
@@ -33,6 +33,7 @@ pub fn write(
     bytes: &[u8],
     at: Moment,
 ) -> Result<Option<Refusal>, AdmitErr>
+    requires { lock_refusal tree.old.lock (Call.Write path.now offset bytes.now) ≡ None }
     ensures applied { (early : Tape) (g : Given) (on : Bool) (st : Standing)
         → IsStock early g on st (stocked tree.old layout.old frame.old)
         → IsApplied early g on st (Call.Write path.now offset bytes.now) at (stocked tree.old layout.old frame.old)

@@ -5,3 +5,4 @@ pub mod SpaceFacts
 pub mod IndexFacts
 pub mod HistoryFacts
 pub mod ToldValue
+pub mod SealedLaw

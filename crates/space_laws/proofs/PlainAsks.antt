@@ -3,19 +3,23 @@ use Rattle.std.proofs.Common.{◌≡◌, ℕ, Bool, true, false, eqb, cond, List
 use Rattle.tape_types.specs.declared.moments.Moment.{Moment}
 use Rattle.plain_tree.specs.Paths.{same_path}
 use Rattle.plain_tree.specs.Refusals.{refusal_of}
-use Rattle.plain_tree.specs.Tree.{cells_at}
+use Rattle.plain_tree.specs.Tree.{cells_at, flag_at, has_value, same_flag}
 use Rattle.plain_tree.specs.declared.calls.Call.{Call}
-use Rattle.plain_tree.specs.declared.calls.Call.TheVariants.{Create, Mkdir, Remove, Rename, Sync, Truncate, Write}
+use Rattle.plain_tree.specs.declared.calls.Call.TheVariants.{Create, Dropx, LockVolume, Mkdir, PermLock, Readonly, Remove, Rename, Setx, Sync, Truncate, UnlockVolume, Write}
 use Rattle.plain_tree.specs.declared.calls.Refusal.{Refusal}
 use Rattle.space_laws.specs.Laws.{AskPlainly, AsksPlainly, StoresAtMost, may_lay_anew, may_need_room, may_write_index}
 use Rattle.space_laws.specs.Space.{Ask, change, nothing, store}
-use Rattle.space_laws.specs.Standing.{Given, Standing, ask_of, ask_unless, ask_unrefused, files_after}
+use Rattle.space_laws.specs.Standing.{Given, Standing, ask_of, ask_unless, ask_unrefused, can_unlock, files_after}
 
 -- ---- what is asked
 
 by_test : (b : Bool) → AsksPlainly (cond b nothing change)
 by_test true = inl refl
 by_test false = inr refl
+
+by_other : (b : Bool) → AsksPlainly (cond b change nothing)
+by_other true = inr refl
+by_other false = inl refl
 
 unrefused : (g : Given) (st : Standing) (call : Call) (at : Moment) → may_need_room call ≡ false
     → AsksPlainly (ask_unrefused g st call at)
@@ -24,6 +28,12 @@ unrefused g st (Create path) at other = inr refl
 unrefused g st (Remove path) at other = inr refl
 unrefused g st (Truncate path size) at other = by_test (eqb size (length (cells_at st.tree.nodes path)))
 unrefused g st (Rename from to) at other = by_test (same_path from to)
+unrefused g st (Setx path key bytes) at other = by_test (has_value st.tree.nodes path key bytes)
+unrefused g st (Dropx path key) at other = inr refl
+unrefused g st (Readonly path on) at other = by_test (same_flag (flag_at st.tree.nodes path) on)
+unrefused g st LockVolume at other = by_test (can_unlock st.tree.lock)
+unrefused g st UnlockVolume at other = by_other (can_unlock st.tree.lock)
+unrefused g st PermLock at other = inr refl
 unrefused g st (Write path offset bytes) at other = absurd (cc other)
 unrefused g st Sync at other = absurd (cc other)
 unrefused g st _ at other = inl refl

@@ -3,17 +3,25 @@ use Rattle.std.specs.Prelude.{◌≡◌, ℕ, ◌+◌, ◌^◌, true, false, Lis
 use Rattle.tape_types.specs.declared.moments.Moment.{Moment}
 use Rattle.tape_types.specs.declared.cartridges.Part.TheVariants.{Ip, Dp}
 use Rattle.tape_types.specs.declared.cartridges.Extent.{Extent}
-use Rattle.tape_types.specs.declared.cartridges.Place.{Place}
 use Rattle.extent_map.specs.Laid.{Laid}
+use Rattle.file_tree.specs.Locks.{lock_of}
 use Rattle.plain_tree.specs.declared.calls.Call.{Call}
-use Rattle.plain_tree.specs.declared.calls.Call.TheVariants.{Write, Sync}
+use Rattle.plain_tree.specs.declared.calls.Call.TheVariants.{Write, Setx, Getx, Dropx, Readonly, Sync}
+use Rattle.plain_tree.specs.declared.calls.Call.TheVariants.{LockVolume, UnlockVolume, PermLock}
+use Rattle.plain_tree.specs.declared.calls.LockState.{LockState}
+use Rattle.plain_tree.specs.declared.calls.LockState.TheVariants.{Absent, Unlocked, Locked, PermLocked}
 use Rattle.tape_layout.specs.declared.ops.Op.TheVariants.{Put}
 use Rattle.tape_layout.specs.Ops.{place_of}
-use Rattle.space_laws.specs.Histories.{done, filling, given, overwriting, path, with_blocks, with_policy, writing}
-use Rattle.space_laws.specs.Space.{Rules, Space, after, is_over, limit_of, need_of, ops_of, part_for, store}
-use Rattle.space_laws.specs.Standing.{Given, admitted, limit_at, need_at, standing}
-use Rattle.space_laws.specs.Trials.{after_asks, bytes_for_dp, empty_space, empty_volume, for_ip, on_dp, on_ip, places}
-use Rattle.space_laws.specs.Trials.{short_index, small}
+use Rattle.space_laws.specs.Files.{index_at}
+use Rattle.space_laws.specs.Histories.{done, filling, given, key, overwriting, path, setting, with_blocks, with_lock}
+use Rattle.space_laws.specs.Histories.{with_policy, writing}
+use Rattle.space_laws.specs.Mount.{was_sealed}
+use Rattle.space_laws.specs.Space.{Ask, Rules, Space, after, change, index, is_over, limit_of, need_of, nothing}
+use Rattle.space_laws.specs.Space.{ops_of, part_for, store}
+use Rattle.space_laws.specs.Standing.{Given, Standing, admitted, asked, first_standing, limit_at, need_at, standing}
+use Rattle.space_laws.specs.Standing.{sync_text}
+use Rattle.space_laws.specs.Trials.{after_asks, bytes_for_dp, empty_space, empty_volume, first_index, for_ip}
+use Rattle.space_laws.specs.Trials.{index_under, on_dp, on_ip, places, short_index, small}
 
 abbrev pub rules : Rules
 rules = small 4096
@@ -86,3 +94,62 @@ pub record TellsHistories (at : Moment) : Type 0 where
   pub changes_twice : (standing (given at (empty_volume at) writing) None (done at) 3).space.ends
       ≡ record { ip = 4; dp = 9 }
   pub nothing_to_sync : need_at (given at (empty_volume at) writing) None (done at) 0 Sync at ≡ 0
+
+-- ---- attributes, flags and locks
+
+-- what a call asks of a volume that was mounted with this lock state
+abbrev pub ask_under : Moment → LockState → Call → Ask
+ask_under at state call = asked (with_lock state (given at (empty_volume at) [])) None [] 0 call at
+
+-- what a call asks behind the first calls of some about a key
+abbrev pub ask_behind : Moment → ℕ → Call → Ask
+ask_behind at k call = asked (given at (empty_volume at) setting) None (done at) k call at
+
+-- the lock state that the next index tells of a tree that has this one
+abbrev pub told_under : Moment → LockState → LockState
+told_under at state = by (first_standing (with_lock state (given at (empty_volume at) [])))
+  where
+    by : Standing → LockState
+    by st = lock_of (index_at (empty_volume at) st.tree st.files 2 at Dp 8 (Some 5)).lock
+
+-- a volume that is locked in its first call
+abbrev pub locking : Moment → Given
+locking at = given at (empty_volume at) (LockVolume ∷ [])
+
+pub record TellsLocks (at : Moment) : Type 0 where
+  -- a lock that stands asks nothing, and neither does an unlock without one
+  pub locks : ask_under at Absent LockVolume ≡ change
+  pub locks_again : ask_under at Unlocked LockVolume ≡ change
+  pub is_locked : ask_under at Locked LockVolume ≡ nothing
+  pub unlocks : ask_under at Locked UnlockVolume ≡ change
+  pub none_to_unlock : ask_under at Absent UnlockVolume ≡ nothing
+  pub is_unlocked : ask_under at Unlocked UnlockVolume ≡ nothing
+  pub seals : ask_under at Locked PermLock ≡ change
+  -- under a lock the tree refuses what would ask for a change, and under a seal also what is about the lock
+  pub refuses_bytes : ask_under at Locked (Write path 0 (codes "x")) ≡ nothing
+  pub stores_bytes : ask_under at Unlocked (Write path 0 (codes "x")) ≡ store false (codes "x")
+  pub refuses_unlock : ask_under at PermLocked UnlockVolume ≡ nothing
+  pub refuses_seal : ask_under at PermLocked PermLock ≡ nothing
+  -- a sync goes on under a lock
+  pub syncs : asked (locking at) None (done at) 1 Sync at
+      ≡ index (sync_text (locking at) (standing (locking at) None (done at) 1) at)
+  -- the flag that stands asks nothing
+  pub flags : ask_under at Absent (Readonly path true) ≡ change
+  pub is_flagged : ask_under at Absent (Readonly path false) ≡ nothing
+  -- the bytes of a key that stand ask nothing
+  pub sets : ask_behind at 0 (Setx path key (codes "one")) ≡ change
+  pub is_set : ask_behind at 1 (Setx path key (codes "one")) ≡ nothing
+  pub sets_others : ask_behind at 2 (Setx path key (codes "two")) ≡ change
+  pub reads : ask_behind at 1 (Getx path key) ≡ nothing
+  pub drops : ask_behind at 1 (Dropx path key) ≡ change
+  pub none_to_drop : ask_behind at 0 (Dropx path key) ≡ nothing
+  -- an index tells the lock of its tree, whatever the mounted one told
+  pub tells_none : told_under at Absent ≡ Absent
+  pub tells_unlocked : told_under at Unlocked ≡ Unlocked
+  pub tells_locked : told_under at Locked ≡ Locked
+  pub tells_sealed : told_under at PermLocked ≡ PermLocked
+  -- of what a mounted index may tell, the lock for ever alone seals
+  pub sealed : was_sealed (index_under at PermLocked) ≡ true
+  pub not_by_a_lock : was_sealed (index_under at Locked) ≡ false
+  pub not_unlocked : was_sealed (index_under at Unlocked) ≡ false
+  pub not_without : was_sealed (first_index at) ≡ false

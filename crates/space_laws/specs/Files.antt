@@ -12,6 +12,7 @@ use Rattle.plain_tree.specs.declared.nodes.Node as plain_node
 use Rattle.plain_tree.specs.declared.nodes.Kind as plain_kind
 use Rattle.plain_tree.specs.declared.nodes.Kind.TheVariants as plain_kinds
 use Rattle.extent_map.specs.Laid.{Laid}
+use Rattle.file_tree.specs.Locks.{told_lock}
 use Rattle.file_tree.specs.Mounts.{Letters, laid_of}
 use Rattle.file_tree.specs.Told.{letter_of, raw_of, place_of, name_or}
 use Rattle.tape_types.specs.NodeKeys.Keys.{list_of}
@@ -74,7 +75,8 @@ root_name m = unwrap_or (option_map (λ (n : Node). n.name) (find (λ n. n.uid =
 abbrev pub told_nodes : MountFacts → Tree → Files → List Node
 told_nodes m tree files = map (told_node (letters m) (root_name m) files (fin.keys tree.nodes)) (fin.entries tree.nodes)
 
--- the index of a tree as it stands at a place of a partition, with what no call changes as the mounted index has it
+-- the index of a tree as it stands at a place of a partition, with what no call changes as the mounted index has it;
+-- its lock state is the tree's
 abbrev pub index_at : MountFacts → Tree → Files → ℕ → Moment → Part → ℕ → Option ℕ → Index
 index_at m tree files generation at part pos back = record {
   creator = codes "ltfs_server 1.0.0";
@@ -86,7 +88,7 @@ index_at m tree files generation at part pos back = record {
   back = option_map (λ block. record { letter = m.label.dpart; block = block }) back;
   allow = m.index.allow;
   policy = m.index.policy;
-  lock = m.index.lock;
+  lock = told_lock tree.lock;
   highest = tree.highest;
   nodes = told_nodes m tree files;
 }

@@ -4,8 +4,10 @@ use Rattle.std.specs.FinMap as fin
 use Rattle.tape_types.specs.declared.moments.Moment.{Moment}
 use Rattle.plain_tree.specs.Tree.{Tree, new_node}
 use Rattle.plain_tree.specs.declared.nodes.Kind.TheVariants as kinds
+use Rattle.plain_tree.specs.declared.calls.LockState.{LockState}
+use Rattle.plain_tree.specs.declared.calls.LockState.TheVariants as locks
 use Rattle.plain_tree.specs.declared.calls.Call.{Call}
-use Rattle.plain_tree.specs.declared.calls.Call.TheVariants.{Write, Truncate}
+use Rattle.plain_tree.specs.declared.calls.Call.TheVariants.{Write, Truncate, Setx}
 use Rattle.plain_tree.specs.declared.calls.Fate.{Fate}
 use Rattle.plain_tree.specs.declared.calls.Fate.TheVariants as fates
 use Rattle.plain_tree.specs.declared.calls.Placed.{Placed}
@@ -19,6 +21,7 @@ path = codes "a" ∷ []
 abbrev pub with_a : Moment → Tree
 with_a at = record {
   highest = 2;
+  lock = locks.Absent;
   nodes = fin.insert (fin.insert fin.empty [] (new_node kinds.Dir 1 at)) path (new_node (kinds.File []) 2 at);
 }
 
@@ -29,6 +32,10 @@ given at m calls = record {
   mounted = m;
   limits = record { cap_ip = 64; cap_dp = 64 };
 }
+
+-- with this lock state
+abbrev pub with_lock : LockState → Given → Given
+with_lock state g = record g { tree = record g.tree { lock = state } }
 
 abbrev pub with_blocks : ℕ → MountFacts → MountFacts
 with_blocks size m = record m { label = record m.label { block = size } }
@@ -57,3 +64,11 @@ overwriting = Write path 0 (codes "abcdefghij") ∷ Write path 3 (codes "XY") �
 
 abbrev pub writing : List Call
 writing = Write path 0 (codes "hello") ∷ Write path 5 (codes "world") ∷ Write path 0 [] ∷ []
+
+abbrev pub key : List ℕ
+key = codes "key"
+
+-- a key gets its bytes, these again, and others
+abbrev pub setting : List Call
+setting =
+    Setx path key (codes "one") ∷ Setx path key (codes "one") ∷ Setx path key (codes "two") ∷ []

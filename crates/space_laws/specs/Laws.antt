@@ -1,10 +1,11 @@
 -- What the definitions of space say together.
-use Rattle.std.specs.Prelude.{◌≡◌, ◌⊎◌, ℕ, ◌+◌, ◌++◌, Bool, true, false, List, take, Option, Some}
+use Rattle.std.specs.Prelude.{◌≡◌, ◌⊎◌, ℕ, ◌+◌, ◌++◌, Bool, true, false, List, [], take, Option, Some}
 use Rattle.tape_types.specs.declared.moments.Moment.{Moment}
 use Rattle.tape_types.specs.declared.cartridges.Part.{Part}
 use Rattle.tape_types.specs.declared.cartridges.Part.TheVariants.{Ip, Dp}
 use Rattle.tape_types.specs.declared.cartridges.Place.{Place}
 use Rattle.plain_tree.specs.History.{replay}
+use Rattle.plain_tree.specs.Refusals.{is_sealed}
 use Rattle.plain_tree.specs.declared.calls.Call.{Call}
 use Rattle.plain_tree.specs.declared.calls.Call.TheVariants.{Write, Truncate, Sync}
 use Rattle.plain_tree.specs.declared.calls.Fate.TheVariants as fates
@@ -19,7 +20,7 @@ use Rattle.space_laws.specs.Files.{canon, value_of}
 use Rattle.space_laws.specs.Space.{Ask, Rules, Space, after, after_close, index, index_need, limit_of, need_of}
 use Rattle.space_laws.specs.Space.{change, nothing, ops_of, part_for, plan_of, store}
 use Rattle.space_laws.specs.Standing.{Given, Standing, after_done, after_placed, ask_of, ask_unrefused, files_after}
-use Rattle.space_laws.specs.Standing.{standing}
+use Rattle.space_laws.specs.Standing.{admitted, asked, first_standing, standing}
 
 -- what a layout admits in this space, and where
 abbrev pub admission_of : Rules → Bool → Space → List Op → Ask → Place → Admission
@@ -61,6 +62,15 @@ pub record AreStill : Type 0 where
   pub void : (g : Given) (on : Bool) (st : Standing) (p : Placed) → p.fate ≡ fates.Void → after_placed g on st p ≡ st
   pub nothing_asked : (g : Given) (on : Bool) (st : Standing) (call : Call) (at : Moment)
       → ask_of g st call at ≡ nothing → after_done g on st call at ≡ st
+
+-- A sealed volume stands after each history as it was mounted: no call asks anything of the tape or changes the tree.
+pub record SealedVolumesStay : Type 0 where
+  pub stands : (g : Given) (on : Option ℕ) (history : List Placed) (k : ℕ) → is_sealed g.tree.lock ≡ true
+      → standing g on history k ≡ first_standing g
+  pub asks : (g : Given) (on : Option ℕ) (history : List Placed) (k : ℕ) (call : Call) (at : Moment)
+      → is_sealed g.tree.lock ≡ true → asked g on history k call at ≡ nothing
+  pub admits : (g : Given) (on : Option ℕ) (history : List Placed) → is_sealed g.tree.lock ≡ true
+      → admitted g on history ≡ []
 
 -- a call that may need room on the tape
 abbrev pub may_need_room : Call → Bool

@@ -1,6 +1,6 @@
 -- The tree of a history, how its files lie and how much of the tape they take, placement by placement.
-use Rattle.std.specs.Prelude.{ℕ, ◌+◌, ◌==◌, ◌||◌, nat_le, max, cond, Bool, false, List, [], ◌∷◌, length, take, fold}
-use Rattle.std.specs.Prelude.{Option, Some, None}
+use Rattle.std.specs.Prelude.{ℕ, ◌+◌, ◌==◌, ◌||◌, nat_le, max, cond, Bool, true, false, List, [], ◌∷◌, length, take}
+use Rattle.std.specs.Prelude.{fold, Option, Some, None}
 use Rattle.std.specs.Option.{unwrap_or}
 use Rattle.std.specs.List.{enumerate_from, flat_map}
 use Rattle.std.specs.FinMap as fin
@@ -13,11 +13,14 @@ use Rattle.plain_tree.specs.Calls.{after}
 use Rattle.plain_tree.specs.History.{Calls, call_at}
 use Rattle.plain_tree.specs.Paths.{last_name, same_path}
 use Rattle.plain_tree.specs.Refusals.{refusal_of}
-use Rattle.plain_tree.specs.Tree.{Tree, Nodes, cells_at}
+use Rattle.plain_tree.specs.Tree.{Tree, Nodes, cells_at, flag_at, has_value, same_flag}
 use Rattle.plain_tree.specs.declared.nodes.Node.{Node}
 use Rattle.plain_tree.specs.declared.calls.Call.{Call}
 use Rattle.plain_tree.specs.declared.calls.Call.TheVariants.{Mkdir, Create, Write, Truncate, Read, Listing, Stat}
-use Rattle.plain_tree.specs.declared.calls.Call.TheVariants.{Rename, Remove, Sync}
+use Rattle.plain_tree.specs.declared.calls.Call.TheVariants.{Rename, Remove, Setx, Getx, Dropx, Readonly}
+use Rattle.plain_tree.specs.declared.calls.Call.TheVariants.{LockVolume, UnlockVolume, PermLock, Sync}
+use Rattle.plain_tree.specs.declared.calls.LockState.{LockState}
+use Rattle.plain_tree.specs.declared.calls.LockState.TheVariants as locks
 use Rattle.plain_tree.specs.declared.calls.Fate.{Fate}
 use Rattle.plain_tree.specs.declared.calls.Fate.TheVariants as fates
 use Rattle.plain_tree.specs.declared.calls.Placed.{Placed}
@@ -77,6 +80,11 @@ sync_text g st at =
 abbrev pub length_after : Standing → List (List ℕ) → ℕ → ℕ
 length_after st path end = max (length (cells_at st.tree.nodes path)) end
 
+-- a lock that an unlock takes away: not one for ever
+abbrev pub can_unlock : LockState → Bool
+can_unlock locks.Locked = true
+can_unlock _ = false
+
 -- what a call asks of the tape where the tree doesn't refuse it
 abbrev pub ask_unrefused : Given → Standing → Call → Moment → Ask
 ask_unrefused g st (Mkdir path) at = change
@@ -91,6 +99,13 @@ ask_unrefused g st (Listing path) at = nothing
 ask_unrefused g st (Stat path) at = nothing
 ask_unrefused g st (Rename from to) at = cond (same_path from to) nothing change
 ask_unrefused g st (Remove path) at = change
+ask_unrefused g st (Setx path key bytes) at = cond (has_value st.tree.nodes path key bytes) nothing change
+ask_unrefused g st (Getx path key) at = nothing
+ask_unrefused g st (Dropx path key) at = change
+ask_unrefused g st (Readonly path on) at = cond (same_flag (flag_at st.tree.nodes path) on) nothing change
+ask_unrefused g st LockVolume at = cond (can_unlock st.tree.lock) nothing change
+ask_unrefused g st UnlockVolume at = cond (can_unlock st.tree.lock) change nothing
+ask_unrefused g st PermLock at = change
 ask_unrefused g st Sync at = cond st.space.changed (index (sync_text g st at)) nothing
 
 abbrev pub ask_unless : Option Refusal → Ask → Ask

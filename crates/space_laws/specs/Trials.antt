@@ -3,7 +3,9 @@ use Rattle.std.specs.Prelude.{ℕ, Bool, true, false, List, [], ◌∷◌, map, 
 use Rattle.tape_types.specs.declared.moments.Moment.{Moment}
 use Rattle.tape_types.specs.declared.cartridges.Part.TheVariants.{Ip, Dp}
 use Rattle.tape_types.specs.declared.cartridges.Place.{Place}
+use Rattle.file_tree.specs.Locks.{told_lock}
 use Rattle.plain_tree.specs.Tree.{times_at}
+use Rattle.plain_tree.specs.declared.calls.LockState.{LockState}
 use Rattle.index_model.specs.declared.indexes.Index.{Index}
 use Rattle.index_model.specs.declared.nodes.Node.{Node}
 use Rattle.index_model.specs.declared.nodes.NodeKind.TheVariants as kinds
@@ -32,6 +34,10 @@ first_index at = record {
   highest = 1;
   nodes = root at ∷ [];
 }
+
+-- the same, which tells this lock state
+abbrev pub index_under : Moment → LockState → Index
+index_under at state = record (first_index at) { lock = told_lock state }
 
 -- an empty volume as it is mounted
 abbrev pub empty_volume : Moment → MountFacts

@@ -3,7 +3,7 @@ ghost use Rattle.tape_types.specs.declared.moments.Moment.{Moment};
 ghost use Rattle.tape_types.specs.declared.moments.Times.{Times};
 ghost use Rattle.index_model.specs.Archive.{archive, archive_nodes};
 ghost use Rattle.index_model.specs.Values.{all_nodes, value_of as node_value};
-ghost use Rattle.space_laws.specs.Examples.{TellsHistories, TellsSpace};
+ghost use Rattle.space_laws.specs.Examples.{TellsHistories, TellsLocks, TellsSpace};
 ghost use Rattle.space_laws.specs.Files.{value_of};
 
 /// What is needed, what there is and what is admitted, in worked values.
@@ -15,6 +15,11 @@ pub fn the_definitions_tell_space()
 /// How a file lies, where its bytes go and what that needs, in worked histories.
 pub fn the_definitions_tell_histories()
     ensures { (at : Moment) → TellsHistories at }
+{}
+
+/// What calls of attributes, read-only nodes and the lock ask, and which lock an index tells, in worked values.
+pub fn the_definitions_tell_locks()
+    ensures { (at : Moment) → TellsLocks at }
 {}
 
 /// The value of a small index lists the nodes of the index.

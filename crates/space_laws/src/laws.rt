@@ -1,4 +1,5 @@
 ghost use Rattle.space_laws.specs.Laws.{AreSteps, AreStill, AskPlainly, TreesAreReplays, ValuesAreTold};
+ghost use Rattle.space_laws.specs.Laws.{SealedVolumesStay};
 
 /// What a layout admits is one step of the space.
 #[tactic(auto, using(crate::proofs::Steps::are_steps))]
@@ -29,4 +30,10 @@ pub fn nothing_asked_is_no_step()
 #[tactic(auto, using(crate::proofs::ToldValue::values_are_told))]
 pub fn values_are_told()
     ensures { ValuesAreTold }
+{}
+
+/// A sealed volume stands after each history as it was mounted.
+#[tactic(auto, using(crate::proofs::SealedLaw::sealed_volumes_stay))]
+pub fn sealed_volumes_stay()
+    ensures { SealedVolumesStay }
 {}

@@ -61,3 +61,4 @@ mod DrainTies
 mod DrainMade
 pub mod DrainEnds
 pub mod DrainTurn
+pub mod Sealed

@@ -5,3 +5,4 @@ pub mod Running
 pub mod Handing
 pub mod Draining
 pub mod Laws
+pub mod Sealed

@@ -8,6 +8,8 @@ pub struct Frame {
     pub label: Label,
     /// What each index tells as the one before it did.
     pub carried: Carried,
+    /// Whether the volume was mounted as sealed, so that a close makes no command.
+    pub sealed: bool,
     /// The newest generation, up to 2^62.
     pub generation: u64,
     /// The first block of the last index that was admitted on the data partition.

@@ -9,7 +9,7 @@ use Rattle.plain_tree.specs.Refusals.{refusal_of}
 use Rattle.plain_tree.specs.Tree.{Tree}
 use Rattle.plain_tree.specs.declared.calls.Answer.TheVariants as the_answers
 use Rattle.plain_tree.specs.declared.calls.Call.{Call}
-use Rattle.plain_tree.specs.declared.calls.Call.TheVariants.{Listing, Read, Stat, Sync, Write}
+use Rattle.plain_tree.specs.declared.calls.Call.TheVariants.{Getx, Listing, Read, Stat, Sync, Write}
 use Rattle.plain_tree.specs.declared.calls.Refusal.{Refusal}
 use Rattle.session_script.specs.declared.logs.Event.{Event}
 use Rattle.tape_layout.specs.Ops.{place_of}
@@ -87,6 +87,7 @@ done_answer tree (Read path offset count) waits looks free = absurd (cc waits)
 done_answer tree Sync waits looks free = absurd (cc waits)
 done_answer tree (Listing path) waits looks free = absurd (cc looks)
 done_answer tree (Stat path) waits looks free = absurd (cc looks)
+done_answer tree (Getx path key) waits looks free = absurd (cc looks)
 done_answer tree call waits looks free = is_done (refusal_of tree call) free
 
 -- ---- the last index stays before the end

@@ -84,7 +84,7 @@ module _ (one other : Tape) (size : ℕ) (some : 1 ≤ size)
             found (Some node) e = ap (λ n. Some n) (same_node path node e)
 
     near_plain : plain_of one t ≡ plain_of other t
-    near_plain = ap (λ nodes. record { highest = t.highest; nodes = nodes })
+    near_plain = ap (λ nodes. record { highest = t.highest; lock = t.lock; nodes = nodes })
         (same_nodes (plain_nodes one t.nodes) (plain_nodes other t.nodes) same_at)
 
 -- ---- blocks of zeros

@@ -28,7 +28,7 @@ use Rattle.file_tree.specs.Valid.{IsFileOf, IsGood}
 use Rattle.file_tree.specs.declared.nodes.HeldKind.{HeldKind}
 use Rattle.file_tree.specs.declared.nodes.HeldKind.TheVariants as kinds
 use Rattle.file_tree.specs.declared.nodes.Node.{Node}
-use Rattle.file_tree.proofs.CallLemmas.{long_free}
+use Rattle.plain_tree.proofs.Validity.{first_none, free_within}
 use Rattle.file_tree.proofs.PlainLemmas.{plain_get}
 use Rattle.file_tree.proofs.ReadLemmas.{file_of_kind}
 use Rattle.held_volume.proofs.Lies.{plain_there}
@@ -146,7 +146,8 @@ missing m path gone = rw gone refl
 pub file_lies : (tape : Tape) (t : FileTree) (files : Files) (path : List (List ℕ)) (offset : ℕ) (bytes : List ℕ) → IsGood t → LieAs files t
     → refusal_of (plain_of whole t) (Write path offset bytes) ≡ None → IsFileOf t.block_size (files (uid_at (plain_of tape t).nodes path))
 file_lies tape t files path offset bytes good lie free =
-    by (fin.get t.nodes path) refl ((long_free (plain_of whole t) path (offset + length bytes) free).0)
+    by (fin.get t.nodes path) refl
+    (first_none (no_file (plain_of whole t).nodes path) _ (free_within (plain_of whole t) (Write path offset bytes) free).1).0
   where
     is_file : (node : Node) (k : HeldKind) → fin.get t.nodes path ≡ Some node → node.kind ≡ k → no_file (plain_of whole t).nodes path ≡ None
         → IsFileOf t.block_size (files (uid_at (plain_of tape t).nodes path))

@@ -1,5 +1,5 @@
 -- That the indexes which a history has admitted are the top of the data partition, from the start on.
-use Rattle.std.proofs.Common.{◌≡◌, ◌≢◌, inl, inr, ℕ, suc, ◌+◌, ◌<◌, ◌≤◌, if◌then◌else◌, Bool, true, false, List, [], ◌∷◌, ◌++◌, length, map}
+use Rattle.std.proofs.Common.{◌≡◌, ◌≢◌, inl, inr, ℕ, suc, ◌+◌, ◌<◌, ◌≤◌, ◌&&◌, not, if◌then◌else◌, Bool, true, false, List, [], ◌∷◌, ◌++◌, length, map}
 use Rattle.std.proofs.Common.{reverse, take, Option, Some, None, IfSome, refl, sym, ap, subst, ◌∙◌, append-nil, arith, length-append}
 use Rattle.std.specs.List.{AllByRecursion}
 use Rattle.std.proofs.lemmas.List.{append_cancel_left, reverse-append, take-append-le, take_all}
@@ -34,6 +34,7 @@ use Rattle.promises.proofs.ImageLaws.Indexes.{construct_content, construct_is, n
 use Rattle.space_laws.specs.Space as space
 use Rattle.space_laws.specs.Space.{Ask, Rules, Space, change, index, nothing, part_for, store}
 use Rattle.space_laws.specs.Closing.{close_ask, is_dp_due}
+use Rattle.space_laws.specs.Mount.{was_sealed}
 use Rattle.space_laws.specs.Standing.{Given, Standing, after_placed, is_on, rules, sync_text}
 use Rattle.space_laws.proofs.TreeLaw.{are_replays}
 use Rattle.promises.specs.ServingPromise.Ends.{begun}
@@ -462,15 +463,15 @@ module _ {D : Type 0} where
 
   -- ---- a close
 
-  -- with the index that a close admits on the data partition, where one is due
+  -- with the index that a close admits on the data partition, where one is due, of a volume that isn't sealed
   pub closing_own : (planned : Items) (limits : Limits) (older : List Construct) (v : View D) (at : Moment)
-      → KeepsOwn planned limits older v → IsIndexed planned limits v → (space_now limits v).ends ≡ ends_in planned
-      → 1 ≤ v.fixed.mounted.label.block
+      → was_sealed v.fixed.mounted.index ≡ false → KeepsOwn planned limits older v → IsIndexed planned limits v
+      → (space_now limits v).ends ≡ ends_in planned → 1 ≤ v.fixed.mounted.label.block
       → ((text : List ℕ) → close_ask (given_by limits v) (standing_now limits v) at ≡ index text
       → IsTold v.fixed.mounted.label (carried v.fixed.mounted.index) (tree_after v (length v.history))
       (cartridge_on planned) (space_now limits v) text)
       → HasClosing planned limits older v (close_ask (given_by limits v) (standing_now limits v) at)
-  closing_own planned limits older v at was indexed ends size told =
+  closing_own planned limits older v at unsealed was indexed ends size told =
       let g = given_by limits v in
       let st = standing_now limits v in
       let k : ℕ = length v.history in
@@ -478,16 +479,18 @@ module _ {D : Type 0} where
       (length (with_ops (closing_ops limits v (close_ask g st at)) planned Ip))
       (cartridge_on (with_ops (closing_ops limits v (close_ask g st at)) planned)) v.fixed.mounted.newest
       (tree_after v) older ks)
-      (sym (reverse-append (own_places g v.on v.history) (if is_dp_due g st.space then k ∷ [] else [])
+      (sym (ap (λ (sealed : Bool). reverse (own_places g v.on v.history
+      ++ (if not sealed && is_dp_due g st.space then k ∷ [] else []))) unsealed
+      ∙ reverse-append (own_places g v.on v.history) (if is_dp_due g st.space then k ∷ [] else [])
       ∙ ap (λ (ks : List ℕ). ks ++ places_in limits v) (due_first k (sync_text g st at) (is_dp_due g st.space))))
       (by_ask v.fixed.mounted.label planned v.fixed.mounted.newest (tree_after v) (tree_after v) older
       (places_in limits v) k (λ n le. refl) was.within indexed.open_ends was.has (carried v.fixed.mounted.index) st.space
       (rules g) (is_on g.mounted v.on k) size ends indexed.last was.newest_is (close_ask g st at) k told)
 
-  -- none was admitted where the newest generation is that of the mount
+  -- none was admitted where the newest generation is that of the mount, and the close admits none
   pub none_own : (planned : Items) (limits : Limits) (older : List Construct) (v : View D)
       → KeepsOwn planned limits older v → (space_now limits v).newest ≡ v.fixed.mounted.newest
-      → is_dp_due (given_by limits v) (space_now limits v) ≡ false
+      → (not (was_sealed v.fixed.mounted.index) && is_dp_due (given_by limits v) (space_now limits v)) ≡ false
       → reverse (all_places (given_by limits v) v.on v.history) ≡ []
   none_own planned limits older v was newest still =
       ap (λ (due : Bool). reverse (own_places (given_by limits v) v.on v.history
@@ -495,9 +498,9 @@ module _ {D : Type 0} where
       ∙ ap reverse (append-nil (own_places (given_by limits v) v.on v.history))
       ∙ none_long (places_in limits v) (omega (arith, was.newest_is, newest))
     where
-      none_long : (ks : List ℕ) → length ks ≡ 0 → ks ≡ []
+      none_long : (places : List ℕ) → length places ≡ 0 → places ≡ []
       none_long [] is = refl
-      none_long (k ∷ ks) is = absurd (omega (arith, is))
+      none_long (place ∷ places) is = absurd (omega (arith, is))
 
   -- ---- turns
 

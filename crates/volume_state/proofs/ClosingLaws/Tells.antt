@@ -103,7 +103,13 @@ module _ (c : Cartridge) (g : Given) (on : Bool) (st : Standing) (s : Stocked) (
         covered = before.covered;
         tree = (
           before.tree.0,
-          record { highest = tree.highest; name = tree.name; block_size = tree.block_size; nodes = tree.nodes },
+          record {
+            highest = tree.highest;
+            lock = tree.lock;
+            name = tree.name;
+            block_size = tree.block_size;
+            nodes = tree.nodes;
+          },
           before.tree.2,
         );
       }

@@ -83,7 +83,6 @@ module _ (c : Cartridge) (g : Given) (on : Bool) (st : Standing) (s : Stocked) (
     comment = g.mounted.index.comment;
     allow = g.mounted.index.allow;
     policy = g.mounted.index.policy;
-    lock = g.mounted.index.lock;
   }) names
 
   below : (part : Part) (pos : ℕ) → TreeStandsIn s.tree part pos → pos < end_on part st.space.ends.ip st.space.ends.dp

@@ -17,6 +17,7 @@ use Rattle.file_tree.proofs.MountLemmas.{are_told, built_more, first_built, one_
 use Rattle.file_tree.proofs.MountedGood.{built_differ}
 use Rattle.file_tree.proofs.PathLemmas.{number_is}
 use Rattle.volume_state.specs.DueLaws.Laws.{MountsHaveTrees}
+use Rattle.file_tree.specs.Locks.{lock_of}
 
 -- the node of which one is told
 abbrev pub kind_of : Letters → ℕ → told_kind.NodeKind → HeldKind
@@ -95,9 +96,10 @@ mounts_have_trees letters size index can =
     let root = t.order.root in
     let some : 0 < length index.nodes = slice_get_within index.nodes 0 root t.order.first in
     let built = built_to letters size index.nodes t (length index.nodes) some (omega arith) in (
-      record { highest = index.highest; name = root.name; block_size = size; nodes = built.0; spare = 0 },
+      record { highest = index.highest; lock = lock_of index.lock; name = root.name; block_size = size; nodes = built.0; spare = 0 },
       record {
         highest = refl;
+        lock = refl;
         name = λ other is. ap (λ (n : told.Node). n.name) (one_node index.nodes 0 root other t.order.first is);
         block_size = refl;
         nodes = built.1;

@@ -1,5 +1,5 @@
 -- The indexes that a run has put on the data partition of its volume, over those that stood there before.
-use Rattle.std.specs.Prelude.{ℕ, ◌≡◌, ◌≢◌, ◌+◌, ◌≤◌, ◌<◌, if◌then◌else◌, List, [], ◌∷◌, ◌++◌, length, reverse}
+use Rattle.std.specs.Prelude.{ℕ, ◌≡◌, ◌≢◌, ◌+◌, ◌≤◌, ◌<◌, ◌&&◌, not, if◌then◌else◌, List, [], ◌∷◌, ◌++◌, length, reverse}
 use Rattle.std.specs.Prelude.{Option, Some, None, IfSome}
 use Rattle.std.specs.List.{AllByRecursion, enumerate_from, flat_map}
 use Rattle.tape_types.specs.declared.cartridges.Cartridge.{Cartridge}
@@ -25,6 +25,7 @@ use Rattle.cartridge_meaning.specs.Mounts.{Mounts}
 use Rattle.cartridge_meaning.specs.Pointers.{IsOfVolume, PointsOnDp, indexes_of}
 use Rattle.cartridge_meaning.specs.declared.labels.Labels.{Labels}
 use Rattle.space_laws.specs.Closing.{is_dp_due}
+use Rattle.space_laws.specs.Mount.{was_sealed}
 use Rattle.space_laws.specs.Space as space
 use Rattle.space_laws.specs.Space.{Ask}
 use Rattle.space_laws.specs.Standing.{Given, Standing, ask_of, standing}
@@ -57,10 +58,12 @@ indexed_at g on history k p = index_here g (standing g on history k) k p.fate (c
 abbrev pub own_places : Given → Option ℕ → List Placed → List ℕ
 own_places g on history = flat_map (λ e. indexed_at g on history e.0 e.1) (enumerate_from 0 history)
 
--- with that of a close, at the end of the history, where one is due on the data partition
+-- with that of a close, at the end of the history, where one is due on the data partition; a close of a volume that was
+-- mounted as sealed has none
 abbrev pub all_places : Given → Option ℕ → List Placed → List ℕ
 all_places g on history = own_places g on history
-    ++ (if is_dp_due g (standing g on history (length history)).space then length history ∷ [] else [])
+    ++ (if not (was_sealed g.mounted.index) && is_dp_due g (standing g on history (length history)).space
+    then length history ∷ [] else [])
 
 -- ---- indexes on a data partition
 

@@ -155,6 +155,7 @@ pub record Answers {D : Type 0} (who nth : ℕ) (call : Call) (at : Moment) (tol
 abbrev pub only_looks : Call → Bool
 only_looks (calls.Listing path) = true
 only_looks (calls.Stat path) = true
+only_looks (calls.Getx path key) = true
 only_looks call = false
 
 pub record Changes {D : Type 0} (who nth : ℕ) (call : Call) (at : Moment) (old new : Parts D) : Type 0 where

@@ -3,6 +3,7 @@ ghost use Rattle.volume_state.specs.CallLaws.SubmitLaws.{SubmissionsShow};
 ghost use Rattle.volume_state.specs.CallLaws.StepLaws.{StepsCanBeMade, StepsShow};
 ghost use Rattle.volume_state.specs.CallLaws.Laws.{DrainTurnsRun, RunningIsPromised, SubmissionsRun, TurnsRun};
 ghost use Rattle.volume_state.specs.CallLaws.Laws.{VolumesRun};
+ghost use Rattle.volume_state.specs.CallLaws.Sealed.{SealedVolumesStay};
 
 use tape_drive::Drive;
 
@@ -49,4 +50,9 @@ pub fn turns_run<D: Drive>()
 /// And a turn of a session that drains.
 pub fn drain_turns_run<D: Drive>()
     ensures { DrainTurnsRun D.Drive }
+{}
+
+/// A volume that was mounted as sealed stays as it was, where the drive told a cartridge that read as its tree.
+pub fn sealed_volumes_stay<D: Drive>()
+    ensures { SealedVolumesStay D.Drive }
 {}

@@ -1,5 +1,6 @@
 use Rattle.std.proofs.Common.{◌+◌, length, ap, ◌∙◌}
 use Rattle.held_volume.proofs.writes.write_at.Goals as goal
+use Rattle.plain_tree.proofs.Validity.{free_within}
 use Rattle.plain_tree.specs.Refusals.{refusal_of}
 use Rattle.plain_tree.specs.declared.calls.Call.TheVariants as asks
 use Rattle.file_tree.specs.Tree.{plain_of, whole}
@@ -15,7 +16,8 @@ returns-then-is_empty-clause-applied c early g on st i =
     (empty_asks g st c.args.path.now c.args.offset c.args.bytes.now c.args.at (c.if-is_empty.ensures {u = tt}))
 
 pub reserve_extent-reserved-requires : goal.reserve_extent-reserved-requires
-reserve_extent-reserved-requires c = file_there c.args.tree.now c.args.path.now c.args.file c.requires.stands (long_free (plain_of whole c.args.tree.now) c.args.path.now (c.args.offset + length c.args.bytes.now) c.requires.free).0
+reserve_extent-reserved-requires c = file_there c.args.tree.now c.args.path.now c.args.file c.requires.stands (long_free (plain_of whole c.args.tree.now) c.args.path.now (c.args.offset + length c.args.bytes.now)
+    (free_within (plain_of whole c.args.tree.now) (asks.Write c.args.path.now c.args.offset c.args.bytes.now) c.requires.free).1).0
 
 pub returns-then-is_err-clause-err : goal.returns-then-is_err-clause-err
 returns-then-is_err-clause-err c =
@@ -24,7 +26,8 @@ returns-then-is_err-clause-err c =
 
 pub wants_ip-wanted-requires-clause-file : goal.wants_ip-wanted-requires-clause-file
 wants_ip-wanted-requires-clause-file c =
-    let was = file_there c.args.tree.now c.args.path.now c.args.file c.requires.stands (long_free (plain_of whole c.args.tree.now) c.args.path.now (c.args.offset + length c.args.bytes.now) c.requires.free).0 in
+    let was = file_there c.args.tree.now c.args.path.now c.args.file c.requires.stands (long_free (plain_of whole c.args.tree.now) c.args.path.now (c.args.offset + length c.args.bytes.now)
+    (free_within (plain_of whole c.args.tree.now) (asks.Write c.args.path.now c.args.offset c.args.bytes.now) c.requires.free).1).0 in
     still_file c.args.tree.now c.reserve_extent-reserved.new.self c.args.file was c.reserve_extent-reserved.ensures.extents
 
 pub wants_ip-wanted-requires-clause-stands : goal.wants_ip-wanted-requires-clause-stands
@@ -47,7 +50,8 @@ returns-in-Err-clause-err c =
 
 pub overlay-requires : goal.overlay-requires
 overlay-requires c =
-    let free = long_free (plain_of whole c.args.tree.now) c.args.path.now (c.args.offset + length c.args.bytes.now) c.requires.free in
+    let free = long_free (plain_of whole c.args.tree.now) c.args.path.now (c.args.offset + length c.args.bytes.now)
+    (free_within (plain_of whole c.args.tree.now) (asks.Write c.args.path.now c.args.offset c.args.bytes.now) c.requires.free).1 in
     let was = file_there c.args.tree.now c.args.path.now c.args.file c.requires.stands free.0 in
     can_put c.reserve_extent-reserved.new.self c.args.file (still_file c.args.tree.now c.reserve_extent-reserved.new.self c.args.file was c.reserve_extent-reserved.ensures.extents)
     c.args.layout.now c.wants_ip-wanted.result c.args.bytes.now c.args.offset c.in-Ok.place c.count-count.ensures.good
