@@ -1,6 +1,6 @@
 -- A volume that was played and closed gives the log of a run, and the run ends as the close did.
-use Rattle.std.specs.Prelude.{◌≡◌, ℕ, List, filter_map, length, map, Option, Some, take}
-use Rattle.std.proofs.Common.{sym, subst, arith}
+use Rattle.std.specs.Prelude.{◌≡◌, ℕ, Bool, true, false, List, filter_map, length, map, Option, Some, take}
+use Rattle.std.proofs.Common.{ap, refl, sym, subst, ◌∙◌, arith}
 use Rattle.tape_types.specs.declared.moments.Moment.{Moment}
 use Rattle.plain_tree.specs.History.{replay}
 use Rattle.plain_tree.specs.Tree.{Tree}
@@ -17,8 +17,9 @@ use Rattle.cartridge_meaning.specs.Carried.{Carried, carried}
 use Rattle.cartridge_meaning.specs.declared.mounted.Mounted.{Mounted}
 use Rattle.space_laws.specs.Closing.{closing}
 use Rattle.space_laws.specs.Standing.{Given, admitted}
-use Rattle.promises.specs.ServingPromise.Ends.{Closes, IsCloseShort, IsDoneClose, IsEnd, IsShortOnDp, LeavesTree, TellsNodes}
-use Rattle.promises.specs.ServingPromise.Headline.{IsTrueLog, tree_of_log}
+use Rattle.space_laws.specs.Mount.{was_sealed, where_sealed}
+use Rattle.promises.specs.ServingPromise.Ends.{Closes, IsCloseShort, IsDoneClose, IsEnd, IsOpenEnd, IsSealedClose, IsSealedEnd, IsShortOnDp, LeavesTree, TellsNodes}
+use Rattle.promises.specs.ServingPromise.Headline.{IsOn, IsTrueLog, tree_of_log}
 use Rattle.promises.specs.ServingPromise.Meanings.{cartridges}
 use Rattle.promises.specs.ServingPromise.Mount.{facts_of}
 use Rattle.promises.specs.ServingPromise.Replies.{AreReplies}
@@ -215,36 +216,94 @@ module _ {D : Type 0} (drive : Ghosts D) (script : List ScriptLine) (at : Option
     went = went;
   }
 
+  -- ---- how the run ends, by how the close did
+
+  -- it is done, and the volume wasn't mounted as sealed
+  abbrev EndsOpen : Tree → Mounted → ℕ → Type 0
+  EndsOpen tree mounted generation =
+      (on : Option ℕ) × (m : Moment)
+      × IsOn (given_of script tree mounted (seen drive start)) log.events log.history on
+      × IsDoneClose cartridges (seen drive start) (seen drive now) mounted tree
+      (tree_of_log script tree log (length log.history))
+      (closing (given_of script tree mounted (seen drive start)) on log.history m).space.newest generation
+      × ((need limit : ℕ)
+      → ¬ IsCloseShort (given_of script tree mounted (seen drive start)) on log.history m need limit)
+
+  module _ (tree : Tree) (mounted : Mounted)
+      (can : CanTell (IsFound mounted tree) (drive.commands start) (seen drive start)) where
+    -- whether the volume was sealed is as it was mounted
+    seal_is : was_sealed v.fixed.mounted.index ≡ was_sealed mounted.index
+    seal_is = ap (λ (m : Mounted). was_sealed m.index) (mounted_is mounted tree can)
+
+    sealed_close : (generation : ℕ)
+        → IsSealedClose (seen drive v.fixed.first) (seen drive now) v.fixed.mounted generation
+        → IsSealedClose (seen drive start) (seen drive now) mounted generation
+    sealed_close generation c = record {
+      generation_is = c.generation_is ∙ ap (λ (m : Mounted). m.newest) (mounted_is mounted tree can);
+      held = c.held ∙ played.looked.held;
+      sure = c.sure;
+    }
+
+    done_so : (generation : ℕ) (was : Bool)
+        → where_sealed was
+        (IsSealedEnd cartridges (seen drive v.fixed.first) (seen drive now) v now (ends.Done generation))
+        (IsOpenEnd cartridges (seen drive v.fixed.first) (seen drive v.drive) (seen drive now) v now closes.at
+        (ends.Done generation))
+        → where_sealed was (IsSealedClose (seen drive start) (seen drive now) mounted generation)
+        (EndsOpen tree mounted generation)
+    done_so generation true e = sealed_close generation (e.1 (told mounted tree can))
+    done_so generation false e = (
+      v.on,
+      closes.at,
+      (rightly mounted tree can).on_is,
+      done mounted tree can closes.at generation (e.1 (told mounted tree can)),
+      roomy mounted tree can closes.at e.0,
+    )
+
+  -- a close that ends in another way than being done is one of a volume that wasn't sealed
+  unsealed : (end : CloseEnd) (was : Bool)
+      → (IsSealedEnd cartridges (seen drive v.fixed.first) (seen drive now) v now end → ⊥)
+      → where_sealed was (IsSealedEnd cartridges (seen drive v.fixed.first) (seen drive now) v now end)
+      (IsOpenEnd cartridges (seen drive v.fixed.first) (seen drive v.drive) (seen drive now) v now closes.at end)
+      → (was ≡ false)
+      × IsOpenEnd cartridges (seen drive v.fixed.first) (seen drive v.drive) (seen drive now) v now closes.at end
+  unsealed end true none e = absurd (none e)
+  unsealed end false none e = (refl, e)
+
   ends_so : (end : CloseEnd)
       → IsEnd cartridges (seen drive v.fixed.first) (seen drive v.drive) (seen drive now) v now closes.at end
       → EndsSo drive script start now log end
   ends_so (ends.Done generation) e =
-      λ tree mounted can. (
-        v.on,
-        closes.at,
-        (rightly mounted tree can).on_is,
-        done mounted tree can closes.at generation
-            (e.1 (told mounted tree can)),
-        roomy mounted tree can closes.at e.0,
-      )
+      λ tree mounted can.
+      subst
+      (λ was. where_sealed was (IsSealedClose (seen drive start) (seen drive now) mounted generation)
+      (EndsOpen tree mounted generation))
+      (seal_is tree mounted can)
+      (done_so tree mounted can generation (was_sealed v.fixed.mounted.index) e)
   ends_so (ends.Full need limit) e =
+      let open_end = unsealed (ends.Full need limit) (was_sealed v.fixed.mounted.index) (λ none. none) e in
       λ tree mounted can. (
+        sym (seal_is tree mounted can) ∙ open_end.0,
         v.on,
         closes.at,
         (rightly mounted tree can).on_is,
-        short mounted tree can closes.at need limit e.0,
-        leaves_tree mounted tree can e.2,
+        short mounted tree can closes.at need limit open_end.1.0,
+        leaves_tree mounted tree can open_end.1.2,
       )
-  ends_so (ends.Fault counts) e = record {
-    lowest = omega (
-      arith,
-      last_is drive script at start v log played closes.log_is
-          (served_log drive script at start v log played closes.log_is v.drive (omega arith) (omega arith)).faults,
-      e.lowest,
-    );
-    rose = e.rose;
-    highest = e.highest;
-  }
+  ends_so (ends.Fault counts) e =
+      let open_end = unsealed (ends.Fault counts) (was_sealed v.fixed.mounted.index) (λ none. none) e in (
+        record {
+          lowest = omega (
+            arith,
+            last_is drive script at start v log played closes.log_is
+                (served_log drive script at start v log played closes.log_is v.drive (omega arith) (omega arith)).faults,
+            open_end.1.lowest,
+          );
+          rose = open_end.1.rose;
+          highest = open_end.1.highest;
+        },
+        λ tree mounted can. sym (seal_is tree mounted can) ∙ open_end.0,
+      )
   ends_so ends.NoMemory e = tt
 
 -- a volume that was played and closed gives the log of a run

@@ -19,6 +19,7 @@ use Rattle.file_tree.specs.declared.nodes.Node.{Node}
 use Rattle.file_tree.proofs.MountLemmas.{at_path, ends, first_built, one_node}
 use Rattle.volume_state.proofs.DueLaws.Trees.{is_node, node_of, some_at}
 use Rattle.file_tree.proofs.PathLemmas.{get_here, get_other, is_or_not, some_same}
+use Rattle.file_tree.specs.Locks.{lock_of}
 
 -- ---- one node more
 
@@ -156,9 +157,10 @@ some_tree letters size index valid =
     let order = valid.formed.order in
     let some : 0 < length index.nodes = slice_get_within index.nodes 0 order.root order.first in
     let built = built_to letters size index.nodes order valid.agrees.names (length index.nodes) some (omega arith) in (
-      record { highest = index.highest; name = order.root.name; block_size = size; nodes = built.0; spare = 0 },
+      record { highest = index.highest; lock = lock_of index.lock; name = order.root.name; block_size = size; nodes = built.0; spare = 0 },
       record {
         highest = refl;
+        lock = refl;
         name = λ other is. ap (λ (n : told.Node). n.name) (one_node index.nodes 0 order.root other order.first is);
         block_size = refl;
         nodes = built.1;

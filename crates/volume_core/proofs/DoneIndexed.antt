@@ -16,6 +16,7 @@ use Rattle.cartridge_meaning.specs.Pointers.{indexes_of, last_block}
 use Rattle.cartridge_meaning.specs.declared.labels.Labels.{Labels}
 use Rattle.promises.specs.ImageLaws.Made.{part_items}
 use Rattle.space_laws.specs.Closing.{close_ask, is_dp_due}
+use Rattle.space_laws.specs.Mount.{was_sealed}
 use Rattle.space_laws.specs.Space as space
 use Rattle.space_laws.specs.Space.{Space, index, is_over, nothing, ops_of}
 use Rattle.space_laws.specs.Standing.{Given, Standing, rules, sync_text}
@@ -132,13 +133,13 @@ module _ {D : Type 0} (drive : Ghosts D) (fixed : Fixed D) (next : Option Moment
           subst (λ (l : List ℕ). IsTold label facts tree (cartridge_on planned) st.space l) texts (its_text within)
       by false within same = absurd (let wrong : nothing ≡ index w = same in cc)
 
-  -- the indexes of the run with that one
-  pub closing_has : is_over (rules g) on st.space (close_ask g st at) ≡ false → (first : Cartridge)
+  -- the indexes of the run with that one, where the volume wasn't mounted as sealed
+  pub closing_has : was_sealed fixed.mounted.index ≡ false → is_over (rules g) on st.space (close_ask g st at) ≡ false → (first : Cartridge)
       → drive.held fixed.first ≡ Some first
       → HasOwn label (length (planned1 Ip)) (cartridge_on planned1) fixed.mounted.newest (tree_after v)
       (indexes_of first.dp) (reverse (all_places g p.on p.listed.history))
-  closing_has fits first told =
-      closing_own planned (drive.limits fixed.first) (indexes_of first.dp) v at (can.runs.closes.own read first told)
+  closing_has unsealed fits first told =
+      closing_own planned (drive.limits fixed.first) (indexes_of first.dp) v at unsealed (can.runs.closes.own read first told)
       indexed can.runs.tied.ends size (closing_told fits)
 
   due_by : is_over (rules g) on st.space (index text) ≡ false

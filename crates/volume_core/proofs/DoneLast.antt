@@ -1,5 +1,5 @@
 -- A close that is done, with an index on the index partition.
-use Rattle.std.proofs.Common.{◌≡◌, ◌≢◌, inl, ℕ, ◌≤◌, true, List, [], ◌∷◌, ◌++◌, length, reverse, Option, Some, None, IfSome}
+use Rattle.std.proofs.Common.{◌≡◌, ◌≢◌, inl, ℕ, ◌≤◌, true, false, List, [], ◌∷◌, ◌++◌, length, reverse, Option, Some, None, IfSome}
 use Rattle.std.proofs.Common.{refl, sym, ap, subst, ◌∙◌, append-nil, arith}
 use Rattle.tape_types.specs.declared.cartridges.Cartridge.{Cartridge}
 use Rattle.tape_types.specs.declared.cartridges.Item.{Item}
@@ -19,6 +19,7 @@ use Rattle.cartridge_meaning.specs.declared.labels.Labels.{Labels}
 use Rattle.promises.specs.ImageLaws.Plans.{IsCloseDue}
 use Rattle.promises.proofs.ImageLaws.Indexes.{construct_is, some_blocks, with_construct}
 use Rattle.space_laws.specs.Closing.{close_limit, close_need, close_text}
+use Rattle.space_laws.specs.Mount.{was_sealed}
 use Rattle.space_laws.specs.Standing.{Given, Standing}
 use Rattle.promises.specs.ServingPromise.Crash.{IsSound}
 use Rattle.promises.specs.ServingPromise.Meanings.{cartridges}
@@ -205,10 +206,10 @@ module _ {D : Type 0} (drive : Ghosts D) (fixed : Fixed D) (next : Option Moment
     shown_last new all = let last = last_both new all in noted_last new last.0 last.1 last.2 last.3
 
     -- the indexes of the run are its top
-    pub own_last : (new : D) → AllDone drive ops2 (lasts_of mid) true p.drive new → (first : Cartridge)
+    pub own_last : was_sealed fixed.mounted.index ≡ false → (new : D) → AllDone drive ops2 (lasts_of mid) true p.drive new → (first : Cartridge)
         → drive.held fixed.first ≡ Some first
         → (held : Cartridge) × (drive.held new ≡ Some held) × LeavesOwn (drive.limits fixed.first) first held v
-    own_last new all first told =
+    own_last unsealed new all first told =
         let last = last_both new all in (
           last.1.now,
           last.1.told,
@@ -221,6 +222,6 @@ module _ {D : Type 0} (drive : Ghosts D) (fixed : Fixed D) (next : Option Moment
                 (indexes_of first.dp) (reverse (all_places g p.on p.listed.history))
                 (blocks_of fixed.mounted.label.block text) last.1.now indexed.open_ends.ip
                 (some_blocks fixed.mounted.label.block text some due.1.some) (last.1.ip ∙ last.2) (last.1.dp ∙ last.3)
-                (closing_has drive fixed next at p can read (fits drive fixed next at p can mid dp) first told);
+                (closing_has drive fixed next at p can read unsealed (fits drive fixed next at p can mid dp) first told);
           },
         )

@@ -1,5 +1,5 @@
 -- A close that is done, with no index to write.
-use Rattle.std.proofs.Common.{◌≡◌, ◌≢◌, ◌⊎◌, inl, inr, ℕ, ◌+◌, not, Bool, true, false, List, [], ◌∷◌, ◌++◌, length, reverse}
+use Rattle.std.proofs.Common.{◌≡◌, ◌≢◌, ◌⊎◌, inl, inr, ℕ, ◌+◌, ◌&&◌, not, Bool, true, false, List, [], ◌∷◌, ◌++◌, length, reverse}
 use Rattle.std.proofs.Common.{take, Option, Some, IfSome, refl, sym, ap, subst, ◌∙◌, append-nil, arith}
 use Rattle.std.proofs.lemmas.List.{take_all}
 use Rattle.std.proofs.lemmas.Option.{same_Some}
@@ -21,6 +21,8 @@ use Rattle.cartridge_meaning.proofs.Frame.{tree_stays}
 use Rattle.cartridge_meaning.proofs.Known.{Known}
 use Rattle.cartridge_meaning.proofs.OneMount.{done_consistent}
 use Rattle.cartridge_meaning.proofs.OneWay.{last_dp_once, same_tree}
+use Rattle.space_laws.specs.Closing.{is_dp_due}
+use Rattle.space_laws.specs.Mount.{was_sealed}
 use Rattle.space_laws.specs.Space.{Space}
 use Rattle.space_laws.specs.Standing.{Standing}
 use Rattle.promises.specs.ServingPromise.Crash.{IsSound}
@@ -210,17 +212,19 @@ module _ {D : Type 0} (drive : Ghosts D) (fixed : Fixed D) (next : Option Moment
       }
 
   -- no index of the run is there
-  pub own_still : (noted : Bool) (new : D) → fixed.mounted.noted ≡ noted
+  pub own_still : was_sealed fixed.mounted.index ≡ false → (noted : Bool) (new : D) → fixed.mounted.noted ≡ noted
       → AllDone drive ops1 (lasts_of mid) (not noted) p.drive new → (first : Cartridge)
       → drive.held fixed.first ≡ Some first
       → (held : Cartridge) × (drive.held new ≡ Some held) × LeavesOwn (drive.limits fixed.first) first held v
-  own_still noted new is all first told =
+  own_still unsealed noted new is all first told =
       let both = by_notes noted new is all in
       let g = admitted.g drive fixed next at p in
       let older = indexes_of first.dp in
       let none : reverse (all_places g p.on p.listed.history) ≡ [] =
       none_own can.runs.planned (drive.limits fixed.first) older v (can.runs.closes.own read first told)
-      (ap (λ (s : Space). s.newest) (unchanged g p.on p.listed.history quiet.changed quiet.admitted_none)) quiet.not_due in (
+      (ap (λ (s : Space). s.newest) (unchanged g p.on p.listed.history quiet.changed quiet.admitted_none))
+      (ap (λ (sealed : Bool). not sealed && is_dp_due g (admitted.st drive fixed next at p).space) unsealed
+      ∙ quiet.not_due) in (
         both.now,
         both.told,
         record {

@@ -1,13 +1,13 @@
 -- Whether two plain trees are one is decided, and whether two indexes carry over the same.
-use Rattle.std.proofs.Common.{◌≡◌, inl, inr, ℕ, ℤ, Bool, true, false, List, [], ◌∷◌, Option, Some, None, refl, ap}
+use Rattle.std.proofs.Common.{◌≡◌, inl, inr, ℕ, zero, suc, ℤ, Bool, true, false, List, [], ◌∷◌, Option, Some, None, refl, sym, ap, ◌∙◌}
 use Rattle.std.proofs.Math.IntN.{ℤ_discrete}
 use Rattle.std.proofs.Math.Logic.{by_cases}
 use Rattle.std.specs.FinMap as fin
 use Rattle.tape_types.specs.declared.moments.Moment.{Moment}
 use Rattle.tape_types.specs.declared.moments.Times.{Times}
 use Rattle.tape_types.proofs.CivilLemmas.{same_moment}
-use Rattle.ltfs_documents.specs.declared.doc_fields.values.LockState.{LockState}
-use Rattle.ltfs_documents.specs.declared.doc_fields.values.LockState.TheVariants.{Unlocked, Locked, PermLocked}
+use Rattle.plain_tree.specs.declared.calls.LockState.{LockState}
+use Rattle.plain_tree.specs.declared.calls.LockState.TheVariants as locks
 use Rattle.tape_types.specs.NodeKeys.Keys.{KeyMap}
 use Rattle.index_model.specs.declared.indexes.Policy.{Policy}
 use Rattle.plain_tree.specs.Cells.{Cell}
@@ -142,25 +142,45 @@ told_nodes m n =
     known_by (λ (h : fin.entries m ≡ fin.entries n). fin.same_entries_map m n h)
     (λ (e : m ≡ n). ap fin.entries e) (told_list told_entry (fin.entries m) (fin.entries n))
 
+-- ---- the lock state
+
+abbrev lock_number : LockState → ℕ
+lock_number locks.Absent = 0
+lock_number locks.Unlocked = 1
+lock_number locks.Locked = 2
+lock_number locks.PermLocked = 3
+
+abbrev numbered_lock : ℕ → LockState
+numbered_lock zero = locks.Absent
+numbered_lock (suc zero) = locks.Unlocked
+numbered_lock (suc (suc zero)) = locks.Locked
+numbered_lock _ = locks.PermLocked
+
+lock_again : (l : LockState) → numbered_lock (lock_number l) ≡ l
+lock_again locks.Absent = refl
+lock_again locks.Unlocked = refl
+lock_again locks.Locked = refl
+lock_again locks.PermLocked = refl
+
+told_lock : AreTold LockState
+told_lock a b =
+    known_by (λ (h : lock_number a ≡ lock_number b). sym (lock_again a) ∙ ap numbered_lock h ∙ lock_again b)
+    (λ (e : a ≡ b). ap lock_number e) (known_eq (lock_number a) (lock_number b))
+
 -- whether two plain trees are one is decided
 pub told_tree : (a b : Tree) → Known (a ≡ b)
 told_tree a b =
-    known_by (λ (h : (a.highest ≡ b.highest) × (a.nodes ≡ b.nodes)) i. record { highest = h.0 i; nodes = h.1 i })
-    (λ (e : a ≡ b). (ap (λ (t : Tree). t.highest) e, ap (λ (t : Tree). t.nodes) e))
-    (known_both (known_eq a.highest b.highest) (told_nodes a.nodes b.nodes))
+    known_by
+    (λ (h : (a.highest ≡ b.highest) × ((a.lock ≡ b.lock) × (a.nodes ≡ b.nodes))) i. record {
+      highest = h.0 i;
+      lock = h.1.0 i;
+      nodes = h.1.1 i;
+    })
+    (λ (e : a ≡ b).
+    (ap (λ (t : Tree). t.highest) e, (ap (λ (t : Tree). t.lock) e, ap (λ (t : Tree). t.nodes) e)))
+    (known_both (known_eq a.highest b.highest) (known_both (told_lock a.lock b.lock) (told_nodes a.nodes b.nodes)))
 
 -- ---- what is carried over
-
-told_lock : AreTold LockState
-told_lock Unlocked Unlocked = inl refl
-told_lock Unlocked Locked = inr (λ e. cc)
-told_lock Unlocked PermLocked = inr (λ e. cc)
-told_lock Locked Unlocked = inr (λ e. cc)
-told_lock Locked Locked = inl refl
-told_lock Locked PermLocked = inr (λ e. cc)
-told_lock PermLocked Unlocked = inr (λ e. cc)
-told_lock PermLocked Locked = inr (λ e. cc)
-told_lock PermLocked PermLocked = inl refl
 
 told_policy : AreTold Policy
 told_policy a b =
@@ -170,7 +190,7 @@ told_policy a b =
 
 abbrev SameFacts : Carried → Carried → Type 0
 SameFacts a b = (a.root ≡ b.root)
-    × ((a.comment ≡ b.comment) × ((a.allow ≡ b.allow) × ((a.policy ≡ b.policy) × (a.lock ≡ b.lock))))
+    × ((a.comment ≡ b.comment) × ((a.allow ≡ b.allow) × (a.policy ≡ b.policy)))
 
 -- whether two indexes carry over the same is decided
 pub told_facts : (a b : Carried) → Known (a ≡ b)
@@ -180,20 +200,16 @@ told_facts a b =
       root = h.0 i;
       comment = h.1.0 i;
       allow = h.1.1.0 i;
-      policy = h.1.1.1.0 i;
-      lock = h.1.1.1.1 i;
+      policy = h.1.1.1 i;
     })
     (λ (e : a ≡ b). (
       ap (λ (x : Carried). x.root) e,
       (
         ap (λ (x : Carried). x.comment) e,
-        (
-          ap (λ (x : Carried). x.allow) e,
-          (ap (λ (x : Carried). x.policy) e, ap (λ (x : Carried). x.lock) e),
-        ),
+        (ap (λ (x : Carried). x.allow) e, ap (λ (x : Carried). x.policy) e),
       ),
     ))
     (known_both (known_text a.root b.root)
     (known_both (told_option known_text a.comment b.comment)
     (known_both (told_bool a.allow b.allow)
-    (known_both (told_option told_policy a.policy b.policy) (told_option told_lock a.lock b.lock)))))
+    (told_option told_policy a.policy b.policy))))

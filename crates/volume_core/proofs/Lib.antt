@@ -16,6 +16,7 @@ pub mod DoneClose
 pub mod DoneIndexed
 pub mod DoneLast
 pub mod DoneNotes
+mod DoneSealed
 pub mod DoneStill
 pub mod DoneWent
 pub mod EndLemmas

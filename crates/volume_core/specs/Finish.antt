@@ -54,18 +54,26 @@ abbrev pub short_end : (need limit : ℕ) → Result Unit Twin → CloseEnd
 short_end need limit (Ok done) = ends.Full need limit
 short_end need limit (Err counts) = ends.Fault counts
 
--- A close at a moment, of what is held, over a drive. Without memory, and without room on the data partition, no
--- command is made. Without room on the index partition the ops are done that stand then. Else all ops are done, and
--- the notes come where an index went to the index partition or they weren't right at the mount.
-pub data Finishes {D : Type 0} (drive : Ghosts D) (noted : Bool) (at : Moment) (held : Stocked) (old : D)
+-- A close at a moment, of what is held, over a drive, of a volume that wasn't mounted as sealed. Without memory, and
+-- without room on the data partition, no command is made. Without room on the index partition the ops are done that
+-- stand then. Else all ops are done, and the notes come where an index went to the index partition or they weren't right
+-- at the mount.
+pub data FinishesOpen {D : Type 0} (drive : Ghosts D) (noted : Bool) (at : Moment) (held : Stocked) (old : D)
     : D → CloseEnd → Type 0 where
-  no_memory : Finishes drive noted at held old old ends.NoMemory
+  no_memory : FinishesOpen drive noted at held old old ends.NoMemory
   short_on_dp : (need limit : ℕ) → IsShortOnDp at held need limit
-      → Finishes drive noted at held old old (ends.Full need limit)
+      → FinishesOpen drive noted at held old old (ends.Full need limit)
   short_on_ip : (need limit : ℕ) (mid : Stocked) (new : D) (result : Result Unit Twin) → AdmitsOnDp at held mid
       → IsShortOnIp at held need limit → AreOpsDone drive mid.layout.ops old new result
-      → Finishes drive noted at held old new (short_end need limit result)
+      → FinishesOpen drive noted at held old new (short_end need limit result)
   went : (mid last : Stocked) (due : Bool) (new : D) (result : Result Unit Twin) → AdmitsOnDp at held mid
       → AdmitsOnIp at held mid last due
       → EndsWith drive last.layout.ops (lasts_of mid) (due || not noted) old new result
-      → Finishes drive noted at held old new (close_end mid.frame.generation result)
+      → FinishesOpen drive noted at held old new (close_end mid.frame.generation result)
+
+-- where it was mounted as sealed the close is done, with the generation that is held, and makes no command
+pub data Finishes {D : Type 0} (drive : Ghosts D) (noted : Bool) (at : Moment) (held : Stocked) (old : D)
+    : D → CloseEnd → Type 0 where
+  sealed : held.frame.sealed ≡ true → Finishes drive noted at held old old (ends.Done held.frame.generation)
+  unsealed : (new : D) (outcome : CloseEnd) → held.frame.sealed ≡ false
+      → FinishesOpen drive noted at held old new outcome → Finishes drive noted at held old new outcome

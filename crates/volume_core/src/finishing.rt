@@ -6,7 +6,7 @@ ghost use Rattle.tape_layout.specs.Plans.{AreStanding};
 ghost use Rattle.promises.specs.ServingPromise.Served.{Fixed};
 ghost use Rattle.volume_core.specs.VolumeSteps.Seen.{seen_parts};
 ghost use Rattle.volume_core.specs.Doing.{lasts_in};
-ghost use Rattle.volume_core.specs.Finish.{Finishes, close_end, lasts_of, short_end};
+ghost use Rattle.volume_core.specs.Finish.{Finishes, FinishesOpen, close_end, lasts_of, short_end};
 ghost use Rattle.volume_core.specs.Promised.{CanClose};
 
 use crate::commands::{do_ops, end_with};
@@ -18,12 +18,29 @@ use tape_drive::Drive;
 use tape_layout::AdmitErr;
 use tape_types::{Moment, Twin};
 
-/// Closes a volume at a moment: the index that is due on each partition is admitted, all ops are done, and the notes
-/// tell of the last indexes, where one went to the index partition or they weren't right at the mount. A command that
-/// failed is the last one.
+/// Closes a volume at a moment. One that was mounted as sealed is done without a command.
 pub fn finish<D: Drive>(parts: &mut Parts<D>, noted: bool, at: Moment) -> CloseEnd
     requires { (fixed : Fixed D) × (next : Option Instant) × CanClose D.Drive fixed next at (seen_parts parts.old) }
     ensures finishes { Finishes D.Drive noted at (seen_parts parts.old).stock (seen_parts parts.old).drive
+        (seen_parts parts.new).drive result }
+    ensures placements { parts.new.placements ≡ parts.old.placements }
+    ensures trail { parts.new.trail ≡ parts.old.trail }
+{
+    let frame = parts.stock.frame();
+    if frame.sealed {
+        return CloseEnd::Done {
+            generation: frame.generation,
+        };
+    }
+    finish_open(parts, noted, at)
+}
+
+/// Closes one that wasn't: the index that is due on each partition is admitted, all ops are done, and the notes tell of
+/// the last indexes, where one went to the index partition or they weren't right at the mount. A command that failed is
+/// the last one.
+fn finish_open<D: Drive>(parts: &mut Parts<D>, noted: bool, at: Moment) -> CloseEnd
+    requires { (fixed : Fixed D) × (next : Option Instant) × CanClose D.Drive fixed next at (seen_parts parts.old) }
+    ensures finishes { FinishesOpen D.Drive noted at (seen_parts parts.old).stock (seen_parts parts.old).drive
         (seen_parts parts.new).drive result }
     ensures placements { parts.new.placements ≡ parts.old.placements }
     ensures trail { parts.new.trail ≡ parts.old.trail }

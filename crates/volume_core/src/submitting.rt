@@ -104,6 +104,7 @@ fn make<D: Drive>(parts: &mut Parts<D>, alloc: Global, asked: Asked, call: &Call
         } => parts.read_bytes(asked, alloc, path.as_slice(), *offset, *count),
         Call::Listing { path } => parts.list(asked, alloc, path.as_slice()),
         Call::Stat { path } => parts.stat(asked, alloc, path.as_slice()),
+        Call::Getx { path, key } => parts.get_key(asked, alloc, path.as_slice(), key),
         Call::Sync => parts.sync(asked),
         Call::Mkdir { path } => parts.change(asked, Change::Mkdir(path.as_slice())),
         Call::Create { path } => parts.change(asked, Change::Create(path.as_slice())),
@@ -122,5 +123,13 @@ fn make<D: Drive>(parts: &mut Parts<D>, alloc: Global, asked: Asked, call: &Call
             parts.change(asked, Change::Rename(from.as_slice(), to.as_slice()))
         }
         Call::Remove { path } => parts.change(asked, Change::Remove(path.as_slice())),
+        Call::Setx { path, key, bytes } => {
+            parts.change(asked, Change::Setx(path.as_slice(), key, bytes))
+        }
+        Call::Dropx { path, key } => parts.change(asked, Change::Dropx(path.as_slice(), key)),
+        Call::Readonly { path, on } => parts.change(asked, Change::Readonly(path.as_slice(), *on)),
+        Call::LockVolume => parts.change(asked, Change::LockVolume),
+        Call::UnlockVolume => parts.change(asked, Change::UnlockVolume),
+        Call::PermLock => parts.change(asked, Change::PermLock),
     }
 }

@@ -1,6 +1,9 @@
 -- Volumes at their close, on which the definitions of a close are tried.
-use Rattle.std.specs.Prelude.{◌≡◌, ◌^◌, ℕ, false, [], Some, None}
+use Rattle.std.specs.Prelude.{◌≡◌, ◌^◌, ◌+◌, ℕ, Bool, false, [], Some, None}
 use Rattle.tape_types.specs.declared.moments.Moment.{Moment}
+use Rattle.plain_tree.specs.declared.calls.LockState.{LockState}
+use Rattle.plain_tree.specs.declared.calls.LockState.TheVariants as locks
+use Rattle.space_laws.specs.Trials.{index_under}
 use Rattle.promises.specs.ServingPromise.Ends.{begun}
 use Rattle.promises.specs.ServingPromise.Served.{Drive, View}
 use Rattle.promises.specs.ServingPromise.Trials.{cartridge, mounted, with_a}
@@ -18,12 +21,30 @@ last_generation at = with_last (view at 30 [] [] [] [] [] None)
 abbrev pub untouched : Moment → View ℕ
 untouched at = view at 30 [] [] [] [] [] None
 
+-- the same, where the mounted index told this lock state, and the data partition ended with it or not
+abbrev pub mounted_under : LockState → Bool → Moment → View ℕ
+mounted_under state done at = by (untouched at)
+  where
+    by : View ℕ → View ℕ
+    by v = record v
+        { fixed = record v.fixed { mounted = record v.fixed.mounted { index = index_under at state; dp_done = done } } }
+
+-- mounted as sealed, and with an index due on the data partition if it weren't
+abbrev pub sealed : Moment → View ℕ
+sealed at = mounted_under locks.PermLocked false at
+
 abbrev pub telling : ℕ → Drive
 telling vcr = record
     (drive_at 30 None) {
       held = Some (cartridge vcr);
       leavings = record { now = λ image. image ≡ cartridge vcr; since = λ t image. image ≡ cartridge vcr };
     }
+
+-- the same, but a crash leaves another one
+abbrev pub leaving_another : ℕ → Drive
+leaving_another vcr = record (telling vcr) {
+  leavings = record { now = λ image. image ≡ cartridge (vcr + 1); since = λ t image. image ≡ cartridge vcr };
+}
 
 -- a volume with no script that has just begun, with one moment of its clock
 abbrev pub just_begun : Moment → ℕ → View ℕ

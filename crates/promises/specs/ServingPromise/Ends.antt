@@ -13,6 +13,7 @@ use Rattle.session_script.specs.declared.logs.Log.{Log}
 use Rattle.head_queue.specs.EventLaws.Trail.{steps, travel}
 use Rattle.cartridge_meaning.specs.Carried.{Carried, carried}
 use Rattle.cartridge_meaning.specs.declared.mounted.Mounted.{Mounted}
+use Rattle.space_laws.specs.Mount.{was_sealed, where_sealed}
 use Rattle.space_laws.specs.Space.{is_over, need_of, limit_of, index_need}
 use Rattle.space_laws.specs.Closing.{close_ask, close_text, closing, is_ip_due}
 use Rattle.space_laws.specs.Standing.{Given, Standing, rules, is_on, standing}
@@ -115,23 +116,43 @@ pub record LeavesTree (m : Meaning) (facts : Carried) (tree : Tree) (now : Drive
   pub stands : m.Stands held facts tree generation
   pub left : (image : Cartridge) → now.leavings.now image → (other : ℕ) × m.Stands image facts tree other
 
--- How a close at a moment ends: it had the space, it is done, and the cartridge is closed; it had too little, and
--- made no command where the data partition is short, and holds the tree of the whole history where the index partition
--- alone is; or a command failed. Want of memory leaves the drive as it was.
-abbrev pub IsEnd : {D : Type 0} → Meaning → Drive → Drive → Drive → View D → D → Moment → CloseEnd → Type 0
-IsEnd m first before now v drive at (ends.Done generation) =
+-- A close of a volume that was mounted as sealed is done with the generation that was mounted, and has left the
+-- cartridge as it was at the start.
+pub record IsSealedClose (first now : Drive) (mounted : Mounted) (generation : ℕ) : Type 0 where
+  pub generation_is : generation ≡ mounted.newest
+  pub held : now.held ≡ first.held
+  pub sure : (image : Cartridge) → now.leavings.now image → now.held ≡ Some image
+
+-- so it ends, whatever stands on the tape, without a command
+abbrev pub IsSealedEnd : {D : Type 0} → Meaning → Drive → Drive → View D → D → CloseEnd → Type 0
+IsSealedEnd m first now v drive (ends.Done generation) =
+    (drive ≡ v.drive)
+    × (CanTell (λ c. m.Reads c (carried v.fixed.mounted.index) v.fixed.tree v.fixed.mounted.newest) v.fixed.since first
+    → IsSealedClose first now v.fixed.mounted generation)
+IsSealedEnd m first now v drive _ = ⊥
+
+-- How a close at a moment ends of another volume: it had the space, it is done, and the cartridge is closed; it had
+-- too little, and made no command where the data partition is short, and holds the tree of the whole history where the
+-- index partition alone is; or a command failed. Want of memory leaves the drive as it was.
+abbrev pub IsOpenEnd : {D : Type 0} → Meaning → Drive → Drive → Drive → View D → D → Moment → CloseEnd → Type 0
+IsOpenEnd m first before now v drive at (ends.Done generation) =
     ((need limit : ℕ) → ¬ IsCloseShort (given v first) v.on v.history at need limit)
     × (CanTell (λ c. m.Reads c (carried v.fixed.mounted.index) v.fixed.tree v.fixed.mounted.newest) v.fixed.since first
     → IsDoneClose m first now v.fixed.mounted v.fixed.tree (tree_after v (length v.history))
     (closing (given v first) v.on v.history at).space.newest generation)
-IsEnd m first before now v drive at (ends.Full need limit) =
+IsOpenEnd m first before now v drive at (ends.Full need limit) =
     IsCloseShort (given v first) v.on v.history at need limit
     × (IsShortOnDp (given v first) v.on v.history at → drive ≡ v.drive)
     × (CanTell (λ c. m.Stands c (carried v.fixed.mounted.index) v.fixed.tree v.fixed.mounted.newest × IsSound m c)
     v.fixed.since first → ¬ IsShortOnDp (given v first) v.on v.history at
     → LeavesTree m (carried v.fixed.mounted.index) (tree_after v (length v.history)) now)
-IsEnd m first before now v drive at (ends.Fault counts) = IsRise before.faults now.faults counts.before counts.after
-IsEnd m first before now v drive at ends.NoMemory = drive ≡ v.drive
+IsOpenEnd m first before now v drive at (ends.Fault counts) = IsRise before.faults now.faults counts.before counts.after
+IsOpenEnd m first before now v drive at ends.NoMemory = drive ≡ v.drive
+
+-- how a close at a moment ends
+abbrev pub IsEnd : {D : Type 0} → Meaning → Drive → Drive → Drive → View D → D → Moment → CloseEnd → Type 0
+IsEnd m first before now v drive at outcome = where_sealed (was_sealed v.fixed.mounted.index)
+    (IsSealedEnd m first now v drive outcome) (IsOpenEnd m first before now v drive at outcome)
 
 -- a close that is done tells how many nodes the tree has
 abbrev pub TellsNodes : CloseEnd → Tree → ℕ → Type 0

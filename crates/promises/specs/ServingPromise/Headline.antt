@@ -19,12 +19,14 @@ use Rattle.cartridge_meaning.specs.Carried.{Carried, carried}
 use Rattle.cartridge_meaning.specs.declared.mounted.Mounted.{Mounted}
 use Rattle.tape_layout.specs.Ops.{place_of}
 use Rattle.space_laws.specs.Closing.{closing}
+use Rattle.space_laws.specs.Mount.{was_sealed, where_sealed}
 use Rattle.space_laws.specs.Standing.{Given, admitted}
 use Rattle.promises.specs.ServingPromise.Acks.{AreAcks, AreReached, AreSyncs}
 use Rattle.promises.specs.ServingPromise.Asking.{AreAsked, AreGrouped, AreNeeded, AreOfReads, ArePutOff}
 use Rattle.promises.specs.ServingPromise.Steps.{does_dp_flush}
 use Rattle.promises.specs.ServingPromise.Crash.{Meaning, IsSound, SurvivesCrashes}
-use Rattle.promises.specs.ServingPromise.Ends.{IsCloseShort, IsDoneClose, IsShortOnDp, LeavesTree, bounded}
+use Rattle.promises.specs.ServingPromise.Ends.{IsCloseShort, IsDoneClose, IsSealedClose, IsShortOnDp, LeavesTree}
+use Rattle.promises.specs.ServingPromise.Ends.{bounded}
 use Rattle.promises.specs.ServingPromise.Faults.{AreFaults}
 use Rattle.promises.specs.ServingPromise.Replies.{AreReplies}
 use Rattle.promises.specs.ServingPromise.Served.{Drive, CanTell, given_of, queued}
@@ -132,25 +134,33 @@ last_fault first log = by (filter_map fault_of log.events)
     by : List Twin → ℕ
     by faults = fold (λ _ t. t.after) first.faults faults
 
--- When serving ends so: the close had the space, and the cartridge stands for the tree of the whole history, with nothing
--- pending; the close is short by its numbers, and where the index partition alone is, the cartridge holds the tree of the
--- whole history; or the drive's count of faults rose in the close, after all faults of the log.
+-- When serving ends so: the volume was mounted as sealed, and the cartridge is as it was at the start; or it wasn't, the
+-- close had the space, and the cartridge stands for the tree of the whole history, with nothing pending; the close is
+-- short by its numbers, and where the index partition alone is, the cartridge holds the tree of the whole history; or
+-- the drive's count of faults rose in the close, after all faults of the log.
 abbrev pub IsEndOf : Meaning → List ScriptLine → Drive → Drive → Log → ServeEnd → Type 0
 IsEndOf m script first now log (Closed generation) =
     (tree : Tree) (mounted : Mounted)
     → CanTell
     (λ c. m.Reads c (carried mounted.index) tree mounted.newest × m.Mounts c mounted) first.commands first
-    → (on : Option ℕ) × (at : Moment) × IsOn (given_of script tree mounted first) log.events log.history on
+    → where_sealed (was_sealed mounted.index) (IsSealedClose first now mounted generation)
+    ((on : Option ℕ) × (at : Moment) × IsOn (given_of script tree mounted first) log.events log.history on
     × IsDoneClose m first now mounted tree (tree_of_log script tree log (length log.history))
     (closing (given_of script tree mounted first) on log.history at).space.newest generation
-    × ((need limit : ℕ) → ¬ IsCloseShort (given_of script tree mounted first) on log.history at need limit)
+    × ((need limit : ℕ) → ¬ IsCloseShort (given_of script tree mounted first) on log.history at need limit))
 IsEndOf m script first now log (Short need limit) =
     (tree : Tree) (mounted : Mounted)
     → CanTell
     (λ c. m.Reads c (carried mounted.index) tree mounted.newest × m.Mounts c mounted) first.commands first
-    → (on : Option ℕ) × (at : Moment) × IsOn (given_of script tree mounted first) log.events log.history on
+    → (was_sealed mounted.index ≡ false)
+    × (on : Option ℕ) × (at : Moment) × IsOn (given_of script tree mounted first) log.events log.history on
     × IsCloseShort (given_of script tree mounted first) on log.history at need limit
     × (CanTell (λ c. m.Stands c (carried mounted.index) tree mounted.newest × IsSound m c) first.commands first
     → ¬ IsShortOnDp (given_of script tree mounted first) on log.history at
     → LeavesTree m (carried mounted.index) (tree_of_log script tree log (length log.history)) now)
-IsEndOf m script first now log (Failed counts) = IsRise (last_fault first log) now.faults counts.before counts.after
+IsEndOf m script first now log (Failed counts) =
+    IsRise (last_fault first log) now.faults counts.before counts.after
+    × ((tree : Tree) (mounted : Mounted)
+    → CanTell
+    (λ c. m.Reads c (carried mounted.index) tree mounted.newest × m.Mounts c mounted) first.commands first
+    → was_sealed mounted.index ≡ false)

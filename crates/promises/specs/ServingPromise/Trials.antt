@@ -9,6 +9,7 @@ use Rattle.plain_tree.specs.declared.nodes.Kind.TheVariants as kinds
 use Rattle.plain_tree.specs.declared.calls.Answer.TheVariants as answers
 use Rattle.plain_tree.specs.declared.calls.Call.{Call}
 use Rattle.plain_tree.specs.declared.calls.Call.TheVariants.{Write, Read}
+use Rattle.plain_tree.specs.declared.calls.LockState.TheVariants as locks
 use Rattle.plain_tree.specs.declared.calls.Fate.{Fate}
 use Rattle.plain_tree.specs.declared.calls.Fate.TheVariants as fates
 use Rattle.plain_tree.specs.declared.calls.Placed.{Placed}
@@ -41,6 +42,7 @@ path = codes "a" ∷ []
 abbrev pub with_a : Moment → List ℕ → Tree
 with_a at bytes = record {
   highest = 2;
+  lock = locks.Absent;
   nodes = fin.insert (fin.insert fin.empty [] (new_node kinds.Dir 1 at)) path
       (new_node (kinds.File (map Some bytes)) 2 at);
 }
@@ -161,7 +163,7 @@ by_reference = record {
 
 -- the tree after so many placements
 abbrev pub numbered : ℕ → Tree
-numbered n = record { highest = n; nodes = fin.empty }
+numbered n = record { highest = n; lock = locks.Absent; nodes = fin.empty }
 
 -- the same, and the notes of the cartridges below a number are honest alone
 abbrev pub honest_below : ℕ → Meaning
@@ -237,4 +239,4 @@ drained_by_one = queues 7 65 ++ events.Drains 1 ∷ (works 7 1 ++ events.Rests 1
 
 -- nothing is carried over
 abbrev pub plain_facts : Carried
-plain_facts = record { root = []; comment = None; allow = true; policy = None; lock = None }
+plain_facts = record { root = []; comment = None; allow = true; policy = None }

@@ -4,11 +4,14 @@ ghost use Rattle.promises.specs.ServingPromise.Asking.{blocks_of};
 ghost use Rattle.tape_layout.specs.declared.ops.Op.TheVariants.{Put};
 ghost use Rattle.tape_types.specs.declared.cartridges.Item.TheVariants.{Block};
 ghost use Rattle.promises.specs.ServingPromise.Ends.{IsDoneClose, IsEnd, Starts, TellsNodes, begun};
-ghost use Rattle.promises.specs.ServingPromise.Closing.{just_begun, last_generation, telling, untouched};
+ghost use Rattle.promises.specs.ServingPromise.Closing.{just_begun, last_generation, leaving_another, mounted_under};
+ghost use Rattle.promises.specs.ServingPromise.Closing.{sealed, telling, untouched};
 ghost use Rattle.promises.specs.declared.serving_promise.answers.CloseEnd.TheVariants as ends;
-ghost use Rattle.std.specs.Prelude.{◌^◌, ◌+◌, ◌≡◌, ℕ, ◌≢◌, true, List, [], ◌∷◌, codes, Some, take, map, None, ◌++◌};
+ghost use Rattle.std.specs.Prelude.{◌^◌, ◌+◌, ◌≡◌, ℕ, ◌≢◌, true, false, List, [], ◌∷◌, codes, Some, take, map, None, ◌++◌};
 ghost use Rattle.std.specs.Prelude.{decimal, Option};
 ghost use Rattle.tape_types.specs.declared.moments.Moment.{Moment};
+ghost use Rattle.tape_types.specs.declared.cartridges.Twin.{Twin};
+ghost use Rattle.plain_tree.specs.declared.calls.LockState.{LockState};
 ghost use Rattle.plain_tree.specs.Tree.{Tree};
 ghost use Rattle.plain_tree.specs.declared.calls.Call.TheVariants.{Sync, Write};
 ghost use Rattle.plain_tree.specs.declared.calls.Fate.TheVariants as fates;
@@ -27,6 +30,7 @@ ghost use Rattle.promises.specs.ServingPromise.Trials.{fault_replies};
 ghost use Rattle.promises.specs.ServingPromise.Trials.{fault_of_another, sync_marks, drain_marks, log_of, by_reference};
 ghost use Rattle.promises.specs.ServingPromise.Trials.{flushed_at_34, left_until_33, mounted, never_flushed, numbered};
 ghost use Rattle.promises.specs.ServingPromise.Trials.{synced};
+ghost use Rattle.space_laws.specs.Mount.{was_sealed};
 ghost use Rattle.space_laws.specs.Space.{ops_of};
 ghost use Rattle.space_laws.specs.Standing.{admitted, standing, Given};
 ghost use Rattle.space_laws.specs.Trials.{empty_volume, on_dp, on_ip, after_asks, for_ip, places as places_in};
@@ -236,6 +240,32 @@ pub fn the_definitions_tell_closes()
         → ¬ Starts by_reference (telling 2) (mounted at) 30 [] 0 None (Some at) (just_begun at 30) }
     ensures unsound_isnt { (at : Moment)
         → ¬ IsDoneClose (honest_below 3) (telling 2) (telling 4) (mounted at) (numbered 2) (numbered 4) 1 1 }
+{}
+
+/// Closes of a volume that was mounted as sealed: done as it was mounted, without a command, and nothing else. One that
+/// wasn't doesn't end so where an index is due.
+pub fn the_definitions_tell_sealed_closes()
+    ensures sealed_is { (at : Moment)
+        → IsEnd by_reference (telling 2) (telling 2) (telling 2) (sealed at) 30 at (ends.Done 1) }
+    ensures untold_is { (at : Moment)
+        → IsEnd by_reference (drive_at 0 None) (drive_at 30 None) (drive_at 30 None) (sealed at) 30 at (ends.Done 9) }
+    ensures another_generation_isnt { (at : Moment)
+        → ¬ IsEnd by_reference (telling 2) (telling 2) (telling 2) (sealed at) 30 at (ends.Done 2) }
+    ensures with_command_isnt { (at : Moment)
+        → ¬ IsEnd by_reference (telling 2) (telling 2) (telling 2) (sealed at) 31 at (ends.Done 1) }
+    ensures another_cartridge_isnt { (at : Moment)
+        → ¬ IsEnd by_reference (telling 2) (telling 2) (telling 3) (sealed at) 30 at (ends.Done 1) }
+    ensures unsure_isnt { (at : Moment)
+        → ¬ IsEnd by_reference (telling 2) (telling 2) (leaving_another 2) (sealed at) 30 at (ends.Done 1) }
+    ensures full_isnt { (at : Moment) (need limit : ℕ)
+        → ¬ IsEnd by_reference (telling 2) (telling 2) (telling 2) (sealed at) 30 at (ends.Full need limit) }
+    ensures fault_isnt { (at : Moment) (counts : Twin)
+        → ¬ IsEnd by_reference (telling 2) (telling 2) (telling 2) (sealed at) 30 at (ends.Fault counts) }
+    ensures no_memory_isnt { (at : Moment)
+        → ¬ IsEnd by_reference (telling 2) (telling 2) (telling 2) (sealed at) 30 at ends.NoMemory }
+    ensures without_index_isnt { (at : Moment) (state : LockState)
+        → was_sealed (mounted_under state false at).fixed.mounted.index ≡ false
+        → ¬ IsEnd by_reference (telling 2) (telling 2) (telling 2) (mounted_under state false at) 30 at (ends.Done 1) }
 {}
 
 /// Blocks that no read asks for, and a write that is placed while too many ops stand.

@@ -28,15 +28,21 @@ impl<D> Model for Viewed<D> {
     ghost use Rattle.std.specs.Coded.{codes, coded_list, coded_ℕ};
     ghost use Rattle.plain_tree.specs.Paths.{path_cmp};
     ghost use Rattle.plain_tree.specs.contracts.nodes.Node as node;
+    ghost use Rattle.plain_tree.specs.contracts.calls.LockState as state;
+    ghost use Rattle.plain_tree.specs.declared.calls.LockState.TheVariants as locks;
 
     ghost Value = { View D };
 
-    ghost coded = { Prim.hlevel (codes, fin.code {R = path_cmp} (coded_list (coded_list coded_ℕ)) node.the_row.coded) };
+    ghost coded = { Prim.hlevel (
+      codes,
+      state.the_row.coded,
+      fin.code {R = path_cmp} (coded_list (coded_list coded_ℕ)) node.the_row.coded,
+    ) };
 
     ghost view = { λ a. record {
       fixed = record {
         script = a.script;
-        tree = record { highest = 0; nodes = fin.empty };
+        tree = record { highest = 0; lock = locks.Absent; nodes = fin.empty };
         mounted = a.mounted;
         first = a.first.value;
         moment = None;

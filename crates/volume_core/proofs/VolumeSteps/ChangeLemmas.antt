@@ -1,7 +1,7 @@
 -- Calls that change the tree, and the ops that they queue.
 use Rattle.std.specs.Prelude.{ℕ, ◌≡◌, ◌+◌, ◌-◌, ◌*◌, ◌≤◌, Bool, false, List, [], ◌∷◌, ◌++◌, drop, length, map, Option, Some, None, Result, Ok, Err, OnOk}
 use Rattle.std.specs.Option.{unwrap_or}
-use Rattle.std.proofs.Common.{refl, sym, ap, subst, ◌∙◌, arith}
+use Rattle.std.proofs.Common.{inl, inr, refl, sym, ap, subst, ◌∙◌, arith}
 use Rattle.tape_types.specs.declared.moments.Moment.{Moment}
 use Rattle.extent_map.specs.Cells.{Tape}
 use Rattle.plain_tree.specs.Calls.{answer_unless, call_of_change, value_of}
@@ -22,8 +22,10 @@ use Rattle.tape_drive.specs.declared.drive.Drive.{Ghosts}
 use Rattle.tape_layout.specs.Ops.{place_of}
 use Rattle.tape_layout.specs.declared.errors.AdmitErr.{AdmitErr}
 use Rattle.tape_layout.specs.declared.ops.Op.{Op}
-use Rattle.space_laws.specs.Space.{ops_of}
+use Rattle.space_laws.specs.Laws.{AsksPlainly, may_need_room}
+use Rattle.space_laws.specs.Space.{Ask, ops_of}
 use Rattle.space_laws.specs.Standing.{Given, Standing, ask_of, ask_unless, ask_unrefused, length_after, rules}
+use Rattle.space_laws.proofs.PlainAsks.{ask_plainly}
 use Rattle.promises.specs.ServingPromise.Replies.{may_wait}
 use Rattle.promises.specs.ServingPromise.Submits.{queues_at}
 use Rattle.promises.specs.declared.serving_promise.answers.Submitted.{Submitted}
@@ -41,23 +43,10 @@ use Rattle.volume_core.proofs.VolumeSteps.SubmitLemmas.{placed_answered, placed_
 
 -- ---- what is asked
 
--- no change waits, or only looks
-pub changes_wait_not : (change : Change) → may_wait (call_of_change change) ≡ false
-changes_wait_not (changes.Mkdir path) = refl
-changes_wait_not (changes.Create path) = refl
-changes_wait_not (changes.Write path offset bytes) = refl
-changes_wait_not (changes.Truncate path length) = refl
-changes_wait_not (changes.Rename from to) = refl
-changes_wait_not (changes.Remove path) = refl
-
--- nor does one only look at the tree
-pub changes_look_not : (change : Change) → only_looks (call_of_change change) ≡ false
-changes_look_not (changes.Mkdir path) = refl
-changes_look_not (changes.Create path) = refl
-changes_look_not (changes.Write path offset bytes) = refl
-changes_look_not (changes.Truncate path length) = refl
-changes_look_not (changes.Rename from to) = refl
-changes_look_not (changes.Remove path) = refl
+-- no change waits, or only looks at the tree
+pub changes_act : (change : Change) → (may_wait (call_of_change change) ≡ false) × (only_looks (call_of_change change) ≡ false)
+changes_act (changes.Mkdir path) = (refl, refl)
+changes_act _ = (refl, refl)
 
 -- ---- the room of a write
 
@@ -91,6 +80,15 @@ write_room r stock call path offset bytes read most spare is same brings room =
     subst (λ (c : Call). 2 * length (ops_of (rules g) on st.space (ask_of g st c at)) ≤ spare) (sym is)
     (brings_by g on st (refusal_of st.tree (Write path offset bytes)) path offset bytes at most spare
     (subst (λ (b : List ℕ). BringsAtMost (rules g) on st.space (length b) most) same (brings tape g on st stands)) enough)) room
+
+none_brought : (g : Given) (on : Bool) (st : Standing) (ask : Ask) → AsksPlainly ask → length (ops_of (rules g) on st.space ask) ≡ 0
+none_brought g on st ask (inl is) = ap (λ (a : Ask). length (ops_of (rules g) on st.space a)) is
+none_brought g on st ask (inr is) = ap (λ (a : Ask). length (ops_of (rules g) on st.space a)) is
+
+-- a call that may need no room brings no op
+pub others_have_room : (stock : Stocked) (call : Call) (spare : ℕ) → may_need_room call ≡ false → HasRoomFor stock call spare
+others_have_room stock call spare other tape g on st at stands =
+    omega (arith, none_brought g on st (ask_of g st call at) (ask_plainly.asked g st call at other))
 
 -- ---- what stands behind the ops that stood
 

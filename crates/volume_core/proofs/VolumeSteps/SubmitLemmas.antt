@@ -9,7 +9,7 @@ use Rattle.plain_tree.specs.Refusals.{refusal_of}
 use Rattle.plain_tree.specs.Tree.{Tree, facts_of}
 use Rattle.plain_tree.specs.declared.nodes.Node.{Node}
 use Rattle.plain_tree.specs.declared.calls.Refusal.{Refusal}
-use Rattle.plain_tree.specs.declared.calls.Call.TheVariants.{Listing, Read, Stat}
+use Rattle.plain_tree.specs.declared.calls.Call.TheVariants.{Getx, Listing, Read, Stat}
 use Rattle.space_laws.specs.Space.{nothing}
 use Rattle.space_laws.specs.Standing.{Given, Standing, ask_of, ask_unless}
 use Rattle.volume_state.specs.PlanLaws.Planned.{tape_on}
@@ -139,6 +139,7 @@ nothing_asked (Some why) = refl
 looks_ask : (g : Given) (st : Standing) (call : Call) (at : Moment) → only_looks call ≡ true → ask_of g st call at ≡ nothing
 looks_ask g st (Listing path) at is = nothing_asked (refusal_of st.tree (Listing path))
 looks_ask g st (Stat path) at is = nothing_asked (refusal_of st.tree (Stat path))
+looks_ask g st (Getx path key) at is = nothing_asked (refusal_of st.tree (Getx path key))
 looks_ask g st _ at is = cc
 
 unsynced : (r : Option Refusal) (told : Answer) → told ≢ the_answers.Synced → answer_unless r told ≢ the_answers.Synced
@@ -147,6 +148,7 @@ unsynced (Some why) told isnt = λ is. cc
 
 looks_unsynced : (t : Tree) (call : Call) → only_looks call ≡ true → answer t call ≢ the_answers.Synced
 looks_unsynced t (Listing path) is = unsynced (refusal_of t (Listing path)) (value_of t (Listing path)) (λ is. cc)
+looks_unsynced t (Getx path key) is = unsynced (refusal_of t (Getx path key)) (value_of t (Getx path key)) (λ is. cc)
 looks_unsynced t (Stat path) is = unsynced (refusal_of t (Stat path)) (value_of t (Stat path)) (by (fin.get t.nodes path) refl)
   where
     by : (found : Option Node) → fin.get t.nodes path ≡ found → value_of t (Stat path) ≢ the_answers.Synced

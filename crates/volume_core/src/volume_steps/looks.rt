@@ -39,6 +39,18 @@ impl<D: Drive> Parts<D> {
         self.tell(asked, alloc, told)
     }
 
+    /// Answers the bytes of a key.
+    pub fn get_key(&mut self, asked: Asked, alloc: Global, path: &[Text], key: &Text) -> Submitted
+        requires { CanAsk asked.who (seen_parts self.old) }
+        ensures submits { IsSubmitted D.Drive asked.who asked.nth asked.at (seen_parts self.old) (seen_parts self.new)
+            (calls.Getx path.now key.now) result }
+        ensures answered { self.new.reads.answered ≡ self.old.reads.answered }
+        ensures placed { result ≢ submitted.Drain }
+    {
+        let told = self.stock.get_key(path, key);
+        self.tell(asked, alloc, told)
+    }
+
     /// Tells the facts of a node.
     pub fn stat(&mut self, asked: Asked, alloc: Global, path: &[Text]) -> Submitted
         requires { CanAsk asked.who (seen_parts self.old) }

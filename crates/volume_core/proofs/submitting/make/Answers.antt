@@ -56,3 +56,38 @@ returns-in-Rename-clause-submits g c =
     subst (λ (call : Call). IsSubmitted g.D.Drive c.args.asked.who c.args.asked.nth c.args.asked.at (seen_parts c.args.parts.now) (seen_parts c.change-in-Rename.new.self) call c.change-in-Rename.result)
     (ap (λ p. asks.Rename p c.as_slice-in-Rename-2.result.now) c.as_slice-in-Rename.ensures ∙ ap (asks.Rename c.in-Rename.from) c.as_slice-in-Rename-2.ensures ∙ sym c.in-Rename.is)
     c.change-in-Rename.ensures.submits
+
+pub returns-in-Getx-clause-submits : goal.returns-in-Getx-clause-submits
+returns-in-Getx-clause-submits g c =
+    subst (λ (call : Call). IsSubmitted g.D.Drive c.args.asked.who c.args.asked.nth c.args.asked.at (seen_parts c.args.parts.now) (seen_parts c.get_key.new.self) call c.get_key.result)
+    (ap (λ p. asks.Getx p c.in-Getx.key) c.as_slice-in-Getx.ensures ∙ sym c.in-Getx.is) c.get_key.ensures.submits
+
+pub returns-in-Setx-clause-submits : goal.returns-in-Setx-clause-submits
+returns-in-Setx-clause-submits g c =
+    subst (λ (call : Call). IsSubmitted g.D.Drive c.args.asked.who c.args.asked.nth c.args.asked.at (seen_parts c.args.parts.now) (seen_parts c.change-in-Setx.new.self) call c.change-in-Setx.result)
+    (ap (λ p. asks.Setx p c.in-Setx.key c.in-Setx.bytes) c.as_slice-in-Setx.ensures ∙ sym c.in-Setx.is) c.change-in-Setx.ensures.submits
+
+pub returns-in-Dropx-clause-submits : goal.returns-in-Dropx-clause-submits
+returns-in-Dropx-clause-submits g c =
+    subst (λ (call : Call). IsSubmitted g.D.Drive c.args.asked.who c.args.asked.nth c.args.asked.at (seen_parts c.args.parts.now) (seen_parts c.change-in-Dropx.new.self) call c.change-in-Dropx.result)
+    (ap (λ p. asks.Dropx p c.in-Dropx.key) c.as_slice-in-Dropx.ensures ∙ sym c.in-Dropx.is) c.change-in-Dropx.ensures.submits
+
+pub returns-in-Readonly-clause-submits : goal.returns-in-Readonly-clause-submits
+returns-in-Readonly-clause-submits g c =
+    subst (λ (call : Call). IsSubmitted g.D.Drive c.args.asked.who c.args.asked.nth c.args.asked.at (seen_parts c.args.parts.now) (seen_parts c.change-in-Readonly.new.self) call c.change-in-Readonly.result)
+    (ap (λ p. asks.Readonly p c.in-Readonly.on) c.as_slice-in-Readonly.ensures ∙ sym c.in-Readonly.is) c.change-in-Readonly.ensures.submits
+
+pub returns-in-LockVolume-clause-submits : goal.returns-in-LockVolume-clause-submits
+returns-in-LockVolume-clause-submits g c =
+    subst (λ (call : Call). IsSubmitted g.D.Drive c.args.asked.who c.args.asked.nth c.args.asked.at (seen_parts c.args.parts.now) (seen_parts c.change-in-LockVolume.new.self) call c.change-in-LockVolume.result)
+    (sym c.in-LockVolume.is) c.change-in-LockVolume.ensures.submits
+
+pub returns-in-UnlockVolume-clause-submits : goal.returns-in-UnlockVolume-clause-submits
+returns-in-UnlockVolume-clause-submits g c =
+    subst (λ (call : Call). IsSubmitted g.D.Drive c.args.asked.who c.args.asked.nth c.args.asked.at (seen_parts c.args.parts.now) (seen_parts c.change-in-UnlockVolume.new.self) call c.change-in-UnlockVolume.result)
+    (sym c.in-UnlockVolume.is) c.change-in-UnlockVolume.ensures.submits
+
+pub returns-in-PermLock-clause-submits : goal.returns-in-PermLock-clause-submits
+returns-in-PermLock-clause-submits g c =
+    subst (λ (call : Call). IsSubmitted g.D.Drive c.args.asked.who c.args.asked.nth c.args.asked.at (seen_parts c.args.parts.now) (seen_parts c.change-in-PermLock.new.self) call c.change-in-PermLock.result)
+    (sym c.in-PermLock.is) c.change-in-PermLock.ensures.submits

@@ -3,7 +3,7 @@ use Rattle.plain_tree.specs.Calls.{call_of_change}
 use Rattle.tape_layout.specs.Plans.{Plan}
 use Rattle.held_volume.proofs.WriteSteps.{is_ok_then}
 use Rattle.volume_core.specs.VolumeSteps.Seen.{seen_parts}
-use Rattle.volume_core.proofs.VolumeSteps.ChangeLemmas.{change_done, change_refused, change_room, change_void, changes_look_not, changes_wait_not}
+use Rattle.volume_core.proofs.VolumeSteps.ChangeLemmas.{change_done, change_refused, change_room, change_void, changes_act}
 use Rattle.volume_core.proofs.VolumeSteps.EndLemmas.{done_of, refused_of, reserves_both, same_of, told_of, unchanged_of, unchanged_same}
 use Rattle.volume_core.proofs.VolumeSteps.SubmitLemmas.{no_memory}
 use Rattle.volume_core.proofs.volume_steps.parts.Parts.change.Goals as goal
@@ -33,7 +33,7 @@ returns-in-Ok-None-clause-submits g c =
     let is = c.in-Ok-None.is ∙ ap Ok c.in-Ok-None.field-0-is in
     change_done g.D.Drive c.args.asked.who c.args.asked.nth (call_of_change c.args.change) c.args.asked.at c.queue_change.result
     c.waiting-standing.result c.apply.new.self c.reserve_for.new.trail old (seen_parts c.queue_change.new.self)
-    c.requires.stands (changes_wait_not c.args.change) (changes_look_not c.args.change) (c.waiting-standing.ensures ∙ ap (λ (l : Plan). length l.ops) c.layout.ensures)
+    c.requires.stands (changes_act c.args.change).0 (changes_act c.args.change).1 (c.waiting-standing.ensures ∙ ap (λ (l : Plan). length l.ops) c.layout.ensures)
     (done_of (call_of_change c.args.change) c.args.asked.at old.stock c.apply.new.self c.apply.result is c.apply.ensures.applied)
     r.events r.acks r.kept c.queue_change.ensures
 
@@ -46,7 +46,7 @@ returns-in-Ok-Some-clause-submits g c =
     let same = same_of old.stock c.apply.new.self refusal c.apply.result is c.apply.ensures.leaves in
     change_refused g.D.Drive c.args.asked.who c.args.asked.nth (call_of_change c.args.change) c.args.asked.at c.answer.result refusal old
     (record old { stock = c.apply.new.self; trail = c.reserve_for.new.trail }) (seen_parts c.answer.new.self) c.requires.can
-    (changes_wait_not c.args.change)
+    (changes_act c.args.change).0
     (refused_of (call_of_change c.args.change) c.args.asked.at old.stock c.apply.new.self refusal c.apply.result is c.apply.ensures.applied)
     same
     (reserves_both old c.apply.new.self c.reserve_for.new.trail (unchanged_same old.stock c.apply.new.self same) r.events r.acks r.kept)
