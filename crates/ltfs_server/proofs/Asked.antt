@@ -16,7 +16,7 @@ use Rattle.cartridge_meaning.specs.declared.errors.MountErr.TheVariants as error
 use Rattle.format_volume.specs.Writes.{Goes}
 use Rattle.format_volume.specs.declared.requests.FormatErr.TheVariants as refusals
 use Rattle.format_volume.proofs.WriteLemmas.{goes_still}
-use Rattle.commands.specs.CommandLine.Forms.{HasNoForm, IsFormat, IsFormatWords, IsGenerations, IsLabel, IsList, IsMake, IsMakeWords, IsPlain, IsPlainWords, IsServe, IsServeWords, IsSpelledBy, IsView, IsViewWords, count_told, make_app}
+use Rattle.commands.specs.CommandLine.Forms.{HasNoForm, IsFormat, IsFormatWords, IsGenerations, IsLabel, IsList, IsListWords, IsMake, IsMakeWords, IsPlain, IsPlainWords, IsServe, IsServeWords, IsSpelledBy, IsView, IsViewWords, count_told, make_app}
 use Rattle.commands.specs.CommandLine.Options.{IsMomentGiven, value_of}
 use Rattle.commands.specs.declared.command_line.views.ViewWords.{ViewWords}
 use Rattle.commands.specs.declared.command_line.volumes.FormatWords.{FormatWords}
@@ -24,7 +24,7 @@ use Rattle.commands.specs.declared.command_line.forms.WordsErr.{WordsErr}
 use Rattle.commands.specs.declared.command_line.forms.WordsErr.TheVariants as word_errors
 use Rattle.commands.specs.declared.command_line.reading.Command.{Command}
 use Rattle.commands.specs.declared.command_line.reading.Command.TheVariants as commands
-use Rattle.commands.proofs.CommandLine.FormLemmas.{format_named, generations_named, label_named, list_named, make_named, names_differ, one_form, one_make, one_serve, plain_named, serve_named, view_named}
+use Rattle.commands.proofs.CommandLine.FormLemmas.{format_named, generations_named, label_named, list_named, make_named, names_differ, one_form, one_list, one_make, one_serve, plain_named, serve_named, view_named}
 use Rattle.commands.proofs.CommandLine.ViewLemmas.{one_view}
 use Rattle.commands.proofs.CommandLine.VolumeLemmas.{one_format}
 use Rattle.generation_view.specs.declared.errors.ViewErr.TheVariants as view_errors
@@ -100,7 +100,7 @@ module _ {D : Type 0} (words : List (String Global)) (gives : Gives) (one : Opti
       let is_plain : IsPlain words = (at, spelled) in record {
         plain = λ again are. subst (λ (a : Option Moment). DoesPlain a gives source sink old new status log) (one_form words at again spelled are) does;
         label = λ label. absurd (names_differ words (codes "plain") (codes "label") refl (plain_named words is_plain) (label_named words label));
-        list = λ list. absurd (names_differ words (codes "plain") (codes "list") refl (plain_named words is_plain) (list_named words list));
+        list = λ all list. absurd (names_differ words (codes "plain") (codes "list") refl (plain_named words is_plain) (list_named words (all, list)));
         generations = λ generations. absurd (names_differ words (codes "plain") (codes "generations") refl (plain_named words is_plain) (generations_named words generations));
         view = λ asked view. absurd (names_differ words (codes "plain") (codes "view") refl (plain_named words is_plain) (view_named words (asked, view)));
         format = λ asked format. absurd (names_differ words (codes "plain") (codes "format") refl (plain_named words is_plain) (format_named words (asked, format)));
@@ -127,7 +127,7 @@ module _ {D : Type 0} (words : List (String Global)) (gives : Gives) (one : Opti
   label_asked spelled nothing does = record {
     plain = λ at are. absurd (names_differ words (codes "plain") (codes "label") refl (plain_named words (at, are)) (label_named words spelled));
     label = λ label. does;
-    list = λ list. absurd (names_differ words (codes "label") (codes "list") refl (label_named words spelled) (list_named words list));
+    list = λ all list. absurd (names_differ words (codes "label") (codes "list") refl (label_named words spelled) (list_named words (all, list)));
     generations = λ generations. absurd (names_differ words (codes "label") (codes "generations") refl (label_named words spelled) (generations_named words generations));
     view = λ asked view. absurd (names_differ words (codes "label") (codes "view") refl (label_named words spelled) (view_named words (asked, view)));
     format = λ asked format. absurd (names_differ words (codes "label") (codes "format") refl (label_named words spelled) (format_named words (asked, format)));
@@ -150,30 +150,31 @@ module _ {D : Type 0} (words : List (String Global)) (gives : Gives) (one : Opti
   }
 
   -- what `list` promises is promised of its words
-  pub list_asked : IsList words → TakesNothing source → DoesList drive old new sink status log → DoesAsked words gives one source sink drive old new status log
-  list_asked spelled nothing does = record {
-    plain = λ at are. absurd (names_differ words (codes "plain") (codes "list") refl (plain_named words (at, are)) (list_named words spelled));
-    label = λ label. absurd (names_differ words (codes "label") (codes "list") refl (label_named words label) (list_named words spelled));
-    list = λ list. does;
-    generations = λ generations. absurd (names_differ words (codes "list") (codes "generations") refl (list_named words spelled) (generations_named words generations));
-    view = λ asked view. absurd (names_differ words (codes "list") (codes "view") refl (list_named words spelled) (view_named words (asked, view)));
-    format = λ asked format. absurd (names_differ words (codes "list") (codes "format") refl (list_named words spelled) (format_named words (asked, format)));
-    serve = λ at are. absurd (names_differ words (codes "list") (codes "serve") refl (list_named words spelled) (serve_named words (at, are)));
-    make = λ n time are. absurd (names_differ words (codes "list") (codes "make") refl (list_named words spelled) (make_named words (n, time, are)));
-    no_form = λ none. absurd (none.no_list spelled);
+  pub list_asked : (all : Bool) → IsListWords words all → TakesNothing source → DoesList all drive old new sink status log
+      → DoesAsked words gives one source sink drive old new status log
+  list_asked all spelled nothing does = let is_list : IsList words = (all, spelled) in record {
+    plain = λ at are. absurd (names_differ words (codes "plain") (codes "list") refl (plain_named words (at, are)) (list_named words is_list));
+    label = λ label. absurd (names_differ words (codes "label") (codes "list") refl (label_named words label) (list_named words is_list));
+    list = λ again are. subst (λ (b : Bool). DoesList b drive old new sink status log) (one_list words all again spelled are) does;
+    generations = λ generations. absurd (names_differ words (codes "list") (codes "generations") refl (list_named words is_list) (generations_named words generations));
+    view = λ asked view. absurd (names_differ words (codes "list") (codes "view") refl (list_named words is_list) (view_named words (asked, view)));
+    format = λ asked format. absurd (names_differ words (codes "list") (codes "format") refl (list_named words is_list) (format_named words (asked, format)));
+    serve = λ at are. absurd (names_differ words (codes "list") (codes "serve") refl (list_named words is_list) (serve_named words (at, are)));
+    make = λ n time are. absurd (names_differ words (codes "list") (codes "make") refl (list_named words is_list) (make_named words (n, time, are)));
+    no_form = λ none. absurd (none.no_list is_list);
     unread = λ another third. nothing;
     comes = record {
       statuses = looked_all status does.statuses;
-      done = λ zero. inr (inr (inl spelled));
+      done = λ zero. inr (inr (inl is_list));
       refused = λ one. absurd (other status 1 (0 ∷ 3 ∷ 4 ∷ 6 ∷ 7 ∷ []) refl does.statuses one);
       script = λ two. absurd (other status 2 (0 ∷ 3 ∷ 4 ∷ 6 ∷ 7 ∷ []) refl does.statuses two);
-      volume = λ three. inr (inl spelled);
-      drive = λ four. inr (inl spelled);
+      volume = λ three. inr (inl is_list);
+      drive = λ four. inr (inl is_list);
       read = λ five. absurd (other status 5 (0 ∷ 3 ∷ 4 ∷ 6 ∷ 7 ∷ []) refl does.statuses five);
       full = λ eight. absurd (other status 8 (0 ∷ 3 ∷ 4 ∷ 6 ∷ 7 ∷ []) refl does.statuses eight);
       logged = none_logged words log does.no_log;
     };
-    told = (of_list does.told.0, (spelled, nothing, does.told.1), does.told.2);
+    told = (of_list does.told.0, (all, spelled, nothing, does.told.1), does.told.2);
   }
 
   -- what `generations` promises is promised of its words
@@ -181,7 +182,7 @@ module _ {D : Type 0} (words : List (String Global)) (gives : Gives) (one : Opti
   generations_asked spelled nothing does = record {
     plain = λ at are. absurd (names_differ words (codes "plain") (codes "generations") refl (plain_named words (at, are)) (generations_named words spelled));
     label = λ label. absurd (names_differ words (codes "label") (codes "generations") refl (label_named words label) (generations_named words spelled));
-    list = λ list. absurd (names_differ words (codes "list") (codes "generations") refl (list_named words list) (generations_named words spelled));
+    list = λ all list. absurd (names_differ words (codes "list") (codes "generations") refl (list_named words (all, list)) (generations_named words spelled));
     generations = λ generations. does;
     view = λ asked view. absurd (names_differ words (codes "generations") (codes "view") refl (generations_named words spelled) (view_named words (asked, view)));
     format = λ asked format. absurd (names_differ words (codes "generations") (codes "format") refl (generations_named words spelled) (format_named words (asked, format)));
@@ -210,7 +211,7 @@ module _ {D : Type 0} (words : List (String Global)) (gives : Gives) (one : Opti
       let is_view : IsView words = (asked, spelled) in record {
         plain = λ at are. absurd (names_differ words (codes "plain") (codes "view") refl (plain_named words (at, are)) (view_named words is_view));
         label = λ label. absurd (names_differ words (codes "label") (codes "view") refl (label_named words label) (view_named words is_view));
-        list = λ list. absurd (names_differ words (codes "list") (codes "view") refl (list_named words list) (view_named words is_view));
+        list = λ all list. absurd (names_differ words (codes "list") (codes "view") refl (list_named words (all, list)) (view_named words is_view));
         generations = λ generations. absurd (names_differ words (codes "generations") (codes "view") refl (generations_named words generations) (view_named words is_view));
         view = λ again are. subst (λ (a : ViewWords). DoesView a drive old new sink status log) (one_view words asked again spelled are) does;
         format = λ again format. absurd (names_differ words (codes "format") (codes "view") refl (format_named words (again, format)) (view_named words is_view));
@@ -239,7 +240,7 @@ module _ {D : Type 0} (words : List (String Global)) (gives : Gives) (one : Opti
       let is_format : IsFormat words = (asked, spelled) in record {
         plain = λ at are. absurd (names_differ words (codes "plain") (codes "format") refl (plain_named words (at, are)) (format_named words is_format));
         label = λ label. absurd (names_differ words (codes "label") (codes "format") refl (label_named words label) (format_named words is_format));
-        list = λ list. absurd (names_differ words (codes "list") (codes "format") refl (list_named words list) (format_named words is_format));
+        list = λ all list. absurd (names_differ words (codes "list") (codes "format") refl (list_named words (all, list)) (format_named words is_format));
         generations = λ generations. absurd (names_differ words (codes "format") (codes "generations") refl (format_named words is_format) (generations_named words generations));
         view = λ asked view. absurd (names_differ words (codes "format") (codes "view") refl (format_named words is_format) (view_named words (asked, view)));
         format = λ again are. subst (λ (a : FormatWords). DoesFormat a gives drive old new sink status log) (one_format words asked again spelled are) does;
@@ -268,7 +269,7 @@ module _ {D : Type 0} (words : List (String Global)) (gives : Gives) (one : Opti
       let is_serve : IsServe words = (at, spelled) in record {
         plain = λ again are. absurd (names_differ words (codes "plain") (codes "serve") refl (plain_named words (again, are)) (serve_named words is_serve));
         label = λ label. absurd (names_differ words (codes "label") (codes "serve") refl (label_named words label) (serve_named words is_serve));
-        list = λ list. absurd (names_differ words (codes "list") (codes "serve") refl (list_named words list) (serve_named words is_serve));
+        list = λ all list. absurd (names_differ words (codes "list") (codes "serve") refl (list_named words (all, list)) (serve_named words is_serve));
         generations = λ generations. absurd (names_differ words (codes "serve") (codes "generations") refl (serve_named words is_serve) (generations_named words generations));
         view = λ asked view. absurd (names_differ words (codes "serve") (codes "view") refl (serve_named words is_serve) (view_named words (asked, view)));
         format = λ asked format. absurd (names_differ words (codes "format") (codes "serve") refl (format_named words (asked, format)) (serve_named words is_serve));
@@ -297,7 +298,7 @@ module _ {D : Type 0} (words : List (String Global)) (gives : Gives) (one : Opti
       let is_make : IsMake words = (count, at, spelled) in record {
         plain = λ again are. absurd (names_differ words (codes "plain") (codes "make") refl (plain_named words (again, are)) (make_named words is_make));
         label = λ label. absurd (names_differ words (codes "label") (codes "make") refl (label_named words label) (make_named words is_make));
-        list = λ list. absurd (names_differ words (codes "list") (codes "make") refl (list_named words list) (make_named words is_make));
+        list = λ all list. absurd (names_differ words (codes "list") (codes "make") refl (list_named words (all, list)) (make_named words is_make));
         generations = λ generations. absurd (names_differ words (codes "make") (codes "generations") refl (make_named words is_make) (generations_named words generations));
         view = λ asked view. absurd (names_differ words (codes "make") (codes "view") refl (make_named words is_make) (view_named words (asked, view)));
         format = λ asked format. absurd (names_differ words (codes "format") (codes "make") refl (format_named words (asked, format)) (make_named words is_make));
@@ -331,7 +332,7 @@ module _ {D : Type 0} (words : List (String Global)) (gives : Gives) (one : Opti
       by_status (λ n. IsOneOf n (0 ∷ 1 ∷ 2 ∷ 3 ∷ 4 ∷ 5 ∷ 6 ∷ 7 ∷ 8 ∷ [])) 1 (codes "words\n") sink status told (inr (inl refl)) (λ rose. inr (inr (inr (inr (inr (inr (inl refl))))))) in record {
         plain = λ at are. absurd (none.no_plain (at, are));
         label = λ label. absurd (none.no_label label);
-        list = λ list. absurd (none.no_list list);
+        list = λ all list. absurd (none.no_list (all, list));
         generations = λ generations. absurd (none.no_generations generations);
         view = λ asked view. absurd (none.no_view (asked, view));
         format = λ asked format. absurd (none.no_format (asked, format));
@@ -386,7 +387,7 @@ module _ {D : Type 0} (words : List (String Global)) (gives : Gives) (one : Opti
       by_status (λ n. IsOneOf n (0 ∷ 1 ∷ 2 ∷ 3 ∷ 4 ∷ 5 ∷ 6 ∷ 7 ∷ 8 ∷ [])) 7 (codes "memory\n") sink status told (inr (inr (inr (inr (inr (inr (inr (inl refl)))))))) (λ rose. inr (inr (inr (inr (inr (inr (inl refl))))))) in record {
         plain = λ at are. plain_does at gives source sink old new status log (plains.NoMemory None) same tt (no_log, told);
         label = λ label. label_does drive old new sink status log (unlabelled errors.NoMemory) (if_some (drive.held old) _ (λ c held. tt), tt) (looks_no _ same range) (no_log, told);
-        list = λ list. list_does drive old new sink status log (unlisted errors.NoMemory) (if_some (drive.held old) _ (λ c held. tt), tt) (looks_no _ same range) (no_log, told);
+        list = λ all list. list_does all drive old new sink status log (unlisted errors.NoMemory) (if_some (drive.held old) _ (λ c held. tt), tt) (looks_no _ same range) (no_log, told);
         generations = λ generations. chain_does drive old new sink status log (untold view_errors.NoMemory) (if_some (drive.held old) _ (λ c held. tt), tt) (looks_no _ same range) no_log told;
         view = λ asked view. view_does asked drive old new sink status log (unseen view_errors.NoMemory) (if_some (drive.held old) _ (λ c held. tt), tt) 0 (record { without = λ none. refl; those = λ path is. inl refl; few = omega arith }, looks_no _ same range) no_log told;
         format = λ asked format. format_does drive old new asked gives sink status log (unformatted refusals.NoMemory) same (subst (λ (d : D). Goes drive old d) (sym same) (goes_still drive old)) (no_log, told);
@@ -423,9 +424,9 @@ asked_plain w words k at same is spelled = subst (λ v. IsPlainWords v at) same 
 pub asked_label : (w words : List (String Global)) (k : Command) → w ≡ words → k ≡ commands.Label → IsSpelledBy w (Ok k) → IsLabel words
 asked_label w words k same is spelled = subst IsLabel same (subst (λ (k : Command). IsSpelledBy w (Ok k)) is spelled)
 
--- words that are read as `list` are of its form
-pub asked_list : (w words : List (String Global)) (k : Command) → w ≡ words → k ≡ commands.List → IsSpelledBy w (Ok k) → IsList words
-asked_list w words k same is spelled = subst IsList same (subst (λ (k : Command). IsSpelledBy w (Ok k)) is spelled)
+-- words that are read as `list` are of its form, and tell this of `--all`
+pub asked_list : (w words : List (String Global)) (k : Command) (all : Bool) → w ≡ words → k ≡ commands.List all → IsSpelledBy w (Ok k) → IsListWords words all
+asked_list w words k all same is spelled = subst (λ v. IsListWords v all) same (subst (λ (k : Command). IsSpelledBy w (Ok k)) is spelled)
 
 -- words that are read as `generations` are of its form
 pub asked_generations : (w words : List (String Global)) (k : Command) → w ≡ words → k ≡ commands.Generations → IsSpelledBy w (Ok k) → IsGenerations words

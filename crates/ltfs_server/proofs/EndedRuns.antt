@@ -28,7 +28,7 @@ pub failed_rose : {D : Type 0} (drive : Ghosts D) (old new : D) (moment : Option
     → EndsRun drive old new moment (Failed counts) script log → Rose (drive.faults old) (drive.faults new)
 failed_rose drive old new moment script log counts is =
     let least : min (drive.faults old) (2 ^ 64 - 1) ≤ last_fault (seen drive old) log = rises_end (drive.faults old) (drive.faults new) (filter_map fault_of log.events) is.run.serves.log_is.faults.rises in
-    let rise : IsRise (last_fault (seen drive old) log) (drive.faults new) counts.before counts.after = is.ends in
+    let rise : IsRise (last_fault (seen drive old) log) (drive.faults new) counts.before counts.after = is.ends.0 in
     rose_since (drive.faults old) (last_fault (seen drive old) log) (drive.faults new) counts.before counts.after least rise
 
 -- the statuses of a run that came through are among those of one that ended

@@ -1,7 +1,7 @@
 -- That a run which was closed leaves its own indexes as the top of the chain.
 use Rattle.std.specs.Prelude.{Contains, map, take}
-use Rattle.std.proofs.Common.{◌≡◌, ◌≢◌, ◌∙◌, ℕ, ◌+◌, ◌<◌, ◌≤◌, if◌then◌else◌, List, [], ◌∷◌, ◌++◌, length, reverse, Option, Some, None}
-use Rattle.std.proofs.Common.{refl, sym, ap, subst, arith, length-append}
+use Rattle.std.proofs.Common.{◌≡◌, ◌≢◌, ◌∙◌, ℕ, ◌+◌, ◌<◌, ◌≤◌, ◌&&◌, not, if◌then◌else◌, List, [], ◌∷◌, ◌++◌, length, reverse, Option, Some, None}
+use Rattle.std.proofs.Common.{inl, inr, refl, sym, ap, subst, arith, length-append}
 use Rattle.std.specs.List.{AllByRecursion}
 use Rattle.std.proofs.Math.Seq.{take-append-add}
 use Rattle.std.proofs.lemmas.List.{append_assoc, length-reverse, reverse-append}
@@ -28,6 +28,7 @@ use Rattle.cartridge_meaning.specs.declared.labels.Labels.{Labels}
 use Rattle.cartridge_meaning.specs.declared.mounted.Mounted.{Mounted}
 use Rattle.cartridge_meaning.proofs.OneWay.{labels_once}
 use Rattle.space_laws.specs.Closing.{is_dp_due}
+use Rattle.space_laws.specs.Mount.{was_sealed}
 use Rattle.space_laws.specs.Standing.{Given, standing}
 use Rattle.space_laws.proofs.TreeLaw.{are_replays}
 use Rattle.promises.specs.ServingPromise.Acks.{AreAcks}
@@ -42,6 +43,7 @@ use Rattle.generation_view.specs.Chain.{AreLinks, GenTree, IsLink, behind}
 use Rattle.ltfs_server.specs.Generations.{LeavesGenerations, RunsLeaveGenerations}
 use Rattle.ltfs_server.specs.Serving.{EndsRun}
 use Rattle.ltfs_server.proofs.Acknowledged.{acks_are_done}
+use Rattle.ltfs_server.proofs.ClosedRuns.{IsClosedBy, closed_by}
 
 -- ---- links
 
@@ -183,7 +185,8 @@ module _ {D : Type 0} (drive : Ghosts D) (old new : D) (moment : Option Moment) 
   g = given_of script tree mounted (seen drive old)
 
   abbrev closing : List ℕ
-  closing = if is_dp_due g (standing g top.on log.history (length log.history)).space then length log.history ∷ [] else []
+  closing = if not (was_sealed mounted.index) && is_dp_due g (standing g top.on log.history (length log.history)).space
+      then length log.history ∷ [] else []
 
   -- the same tree stands at two places
   same_tree : (j k : ℕ) → (standing g top.on log.history j).tree ≡ (standing g top.on log.history k).tree
@@ -235,13 +238,23 @@ module _ {D : Type 0} (drive : Ghosts D) (old new : D) (moment : Option Moment) 
       acknowledged = acknowledged_at;
     }
 
+-- what is found of the cartridge of a run that was closed
+found_by : {D : Type 0} (drive : Ghosts D) (old new : D) (script : List ScriptLine) (log : Log) (generation : ℕ)
+    (tree : Tree) (mounted : Mounted) (first held : Cartridge) → drive.held old ≡ Some first
+    → drive.held new ≡ Some held → Found first
+    → IsClosedBy script (seen drive old) (seen drive new) log generation tree mounted → Found held
+found_by drive old new script log generation tree mounted first held was told found (inl (is, closed)) =
+    subst (λ (c : Cartridge). Found c) (same_Some first held (sym was ∙ sym closed.held ∙ told)) found
+found_by drive old new script log generation tree mounted first held was told found (inr (newest, done)) =
+    subst (λ (c : Cartridge). Found c) (same_Some done.held held (sym done.told ∙ told)) done.closed.stands.reads.found
+
 -- a run that was closed leaves its own indexes as the top of the chain
 pub runs_leave_generations : {D : Type 0} (drive : Ghosts D) → RunsLeaveGenerations drive
 runs_leave_generations drive old new moment script log generation tree mounted first ends can told =
     let top = ends.own tree mounted first can told in
-    let closed = (ends.ends tree mounted can).3 in
-    let same : closed.held ≡ top.held = same_Some closed.held top.held (sym closed.told ∙ top.told) in
-    let found = subst (λ (c : Cartridge). Found c) same closed.closed.stands.reads.found in
+    let found = found_by drive old new script log generation tree mounted can.held top.held can.told top.told
+    can.reads_as.0.found
+    (closed_by script (seen drive old) (seen drive new) log generation tree mounted ends.ends can) in
     let true_log = ends.run.serves.truly tree mounted can in (
       top.held,
       top.told,

@@ -1,5 +1,6 @@
 pub mod Acknowledged
 pub mod Asked
+mod ClosedRuns
 pub mod EndedRuns
 pub mod FencedLemmas
 pub mod MakeClauses

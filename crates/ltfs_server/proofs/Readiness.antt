@@ -1,10 +1,13 @@
 -- A drive is ready for a run once its cartridge was formatted, and once a run was closed.
-use Rattle.std.specs.Prelude.{ℕ, ◌≡◌, ◌<◌, ◌-◌, ◌^◌, [], ◌∷◌, length, take, Option, Some, IfSome}
-use Rattle.std.proofs.Common.{refl, sym, subst, ◌∙◌, arith, inl}
+use Rattle.std.specs.Prelude.{ℕ, ◌≡◌, ◌<◌, ◌-◌, ◌^◌, true, [], ◌∷◌, length, take, Option, Some, IfSome}
+use Rattle.std.proofs.Common.{refl, sym, subst, ◌∙◌, arith, inl, inr}
+use Rattle.std.proofs.lemmas.Option.{same_Some}
 use Rattle.tape_types.specs.declared.cartridges.Cartridge.{Cartridge}
 use Rattle.tape_types.specs.declared.moments.Moment.{Moment}
 use Rattle.tape_drive.specs.declared.drive.Drive.{Ghosts}
 use Rattle.plain_tree.specs.Tree.{Tree, empty_tree}
+use Rattle.plain_tree.proofs.LockLemmas.{locks_hold}
+use Rattle.session_script.specs.Grammar.{calls_of}
 use Rattle.session_script.specs.declared.logs.Log.{Log}
 use Rattle.cartridge_meaning.specs.Carried.{Carried, carried}
 use Rattle.cartridge_meaning.specs.Meaning.{Reads}
@@ -13,6 +16,7 @@ use Rattle.cartridge_meaning.specs.declared.mounted.Mounted.{Mounted}
 use Rattle.cartridge_meaning.proofs.OneWay.{same_facts, same_tree}
 use Rattle.format_volume.specs.Meanings.{carried_for}
 use Rattle.format_volume.specs.declared.requests.FormatSpec.{FormatSpec}
+use Rattle.space_laws.specs.Mount.{was_sealed}
 use Rattle.promises.specs.ServingPromise.Crash.{IsSound}
 use Rattle.promises.specs.ServingPromise.Headline.{Closed, Failed, IsEndOf, ServeEnd, Short, status_of, tree_of_log}
 use Rattle.promises.specs.ServingPromise.Meanings.{cartridges}
@@ -20,8 +24,10 @@ use Rattle.promises.specs.ServingPromise.Served.{CanTell}
 use Rattle.promises.specs.OrderLaws.Kept.{seen}
 use Rattle.commands.specs.BasicCommands.Formats.{IsFormatted}
 use Rattle.commands.specs.BasicCommands.Runs.{Taken, Written}
+use Rattle.volume_state.proofs.CallLaws.Sealed.{tree_sealed}
 use Rattle.ltfs_server.specs.Ready.{IsReadyFor, LeavesReady}
 use Rattle.ltfs_server.specs.Sentence.{Asked, Sentence}
+use Rattle.ltfs_server.proofs.ClosedRuns.{IsClosedBy, closed_by}
 
 formatted : {D : Type 0} (drive : Ghosts D) (spec : FormatSpec) (old new : D) (c : Cartridge)
     → drive.held new ≡ Some c → drive.commands new < 2 ^ 64 - 1 → IsFormatted drive spec old new
@@ -73,29 +79,56 @@ module _ {D : Type 0} (drive : Ghosts D)
   was_sound : IfSome (drive.held old) (λ c. IsSound cartridges c)
   was_sound = subst (λ o. IfSome o (λ c. IsSound cartridges c)) (sym ready.told) ready.reads_as.1
 
+  abbrev IsReadyThen : Type 0
+  IsReadyThen = (newest : ℕ)
+      × IsReadyFor drive facts (tree_of_log s.script tree log (length log.history)) newest new
+
+  -- on a sealed volume no call changes the tree
+  tree_stays : was_sealed mounted.index ≡ true → tree_of_log s.script tree log (length log.history) ≡ tree
+  tree_stays sealed = locks_hold.for_ever (calls_of s.script) (take (length log.history) log.history) tree
+      (tree_sealed ready.held mounted facts tree generation found.2 ready.reads_as.0.reads sealed)
+
+  by_close : (newest : ℕ) → IsClosedBy s.script (seen drive old) (seen drive new) log newest read mounted → IsReadyThen
+  by_close newest (inl (sealed, closed)) = (
+    generation,
+    record {
+      held = ready.held;
+      told = closed.held ∙ ready.told;
+      reads_as = (
+        subst (λ (t : Tree). cartridges.Stands ready.held facts t generation) (sym (tree_stays sealed))
+            ready.reads_as.0,
+        ready.reads_as.1,
+      );
+      reached = omega arith;
+      sure = λ image left. same_Some image ready.held
+          (sym (closed.sure image (only_now new image low left)) ∙ closed.held ∙ ready.told);
+    },
+  )
+  by_close newest (inr (admitted, done)) = (
+    newest,
+    record {
+      held = done.held;
+      told = done.told;
+      reads_as = (
+        subst
+            (λ (e : Carried × Tree).
+            cartridges.Stands done.held e.0 (tree_of_log s.script e.1 log (length log.history)) newest)
+            (λ i. (facts_are i, tree_is i)) done.closed.stands,
+        done.sound was_sound,
+      );
+      reached = omega arith;
+      sure = λ image left. done.closed.sure image (only_now new image low left);
+    },
+  )
+
   by_end : (end : ServeEnd) → 0 ≡ status_of end → IsEndOf cartridges s.script (seen drive old) (seen drive new) log end
-      → (newest : ℕ) × IsReadyFor drive facts (tree_of_log s.script tree log (length log.history)) newest new
+      → IsReadyThen
   by_end (Closed newest) zero ends =
-      let done = (ends read mounted can_tell).3 in (
-        newest,
-        record {
-          held = done.held;
-          told = done.told;
-          reads_as = (
-            subst
-                (λ (e : Carried × Tree).
-                cartridges.Stands done.held e.0 (tree_of_log s.script e.1 log (length log.history)) newest)
-                (λ i. (facts_are i, tree_is i)) done.closed.stands,
-            done.sound was_sound,
-          );
-          reached = omega arith;
-          sure = λ image left. done.closed.sure image (only_now new image low left);
-        },
-      )
+      by_close newest (closed_by s.script (seen drive old) (seen drive new) log newest read mounted ends can_tell)
   by_end (Short need limit) zero ends = absurd (cc zero)
   by_end (Failed counts) zero ends = absurd (cc zero)
 
-  closed : (newest : ℕ) × IsReadyFor drive facts (tree_of_log s.script tree log (length log.history)) newest new
+  closed : IsReadyThen
   closed = let so = s.close (inl refl) in by_end so.end so.status_is so.ends
 
 -- a drive is ready once its cartridge was formatted, and once a run was closed

@@ -1,11 +1,11 @@
 -- What a run comes to, command by command: when it comes to that, and what is told then.
-use Rattle.std.specs.Prelude.{◌≡◌, ℕ, List, Option, None, String, codes}
+use Rattle.std.specs.Prelude.{◌≡◌, ℕ, Bool, List, Option, None, String, codes}
 use Rattle.std.specs.Global.{Global}
 use Rattle.tape_types.specs.declared.moments.Moment.{Moment}
 use Rattle.tape_drive.specs.declared.drive.Drive.{Ghosts}
 use Rattle.session_script.specs.declared.logs.Log.{Log}
-use Rattle.commands.specs.CommandLine.Forms.{HasNoForm, IsFormatWords, IsLabel, IsList, IsMakeWords, IsPlainWords, IsServeWords}
-use Rattle.commands.specs.CommandLine.Forms.{IsGenerations, IsViewWords}
+use Rattle.commands.specs.CommandLine.Forms.{HasNoForm, IsFormatWords, IsLabel, IsListWords, IsMakeWords, IsPlainWords}
+use Rattle.commands.specs.CommandLine.Forms.{IsGenerations, IsServeWords, IsViewWords}
 use Rattle.commands.specs.declared.command_line.views.ViewWords.{ViewWords}
 use Rattle.commands.specs.declared.command_line.volumes.FormatWords.{FormatWords}
 use Rattle.generation_view.specs.ViewCommands.Outcomes.{ChainEnd, IsChainEnd, IsViewEnd, ViewEnd, chain_status, chain_text}
@@ -85,7 +85,8 @@ IsCaused r drive old new (of_plain end) =
     (at : Option Moment) × IsPlainWords r.words at × IsPlainEnd r.source r.gives at end
 IsCaused r drive old new (of_label end) =
     IsLabel r.words × TakesNothing r.source × IsLabelEnd (looked drive old new) end
-IsCaused r drive old new (of_list end) = IsList r.words × TakesNothing r.source × IsListEnd (looked drive old new) end
+IsCaused r drive old new (of_list end) =
+    (all : Bool) × IsListWords r.words all × TakesNothing r.source × IsListEnd all (looked drive old new) end
 IsCaused r drive old new (of_generations end) =
     IsGenerations r.words × TakesNothing r.source × IsChainEnd (looked drive old new) end
 IsCaused r drive old new (of_view end) =

@@ -1,5 +1,5 @@
 -- What the program promises for the words of each command: its status, what it prints, and what it leaves of the drive.
-use Rattle.std.specs.Prelude.{◌≡◌, ◌⊎◌, ℕ, ◌*◌, List, [], ◌∷◌, Option, None, IfSome, IsErr, IsOk, String, codes}
+use Rattle.std.specs.Prelude.{◌≡◌, ◌⊎◌, ℕ, Bool, ◌*◌, List, [], ◌∷◌, Option, None, IfSome, IsErr, IsOk, String, codes}
 use Rattle.std.specs.Global.{Global}
 use Rattle.std.specs.Io.KnownBytes.{Appends}
 use Rattle.tape_types.specs.Counts.{Rose}
@@ -10,8 +10,8 @@ use Rattle.mount_recover.specs.Known.{mount_most}
 use Rattle.tape_drive.specs.Looks.{Looks}
 use Rattle.tape_drive.specs.declared.drive.Drive.{Ghosts}
 use Rattle.cartridge_meaning.specs.Meaning.{Found}
-use Rattle.commands.specs.CommandLine.Forms.{HasNoForm, IsFormat, IsFormatWords, IsLabel, IsList, IsMake, IsMakeWords, IsPlain}
-use Rattle.commands.specs.CommandLine.Forms.{IsPlainWords, IsServe, IsServeWords}
+use Rattle.commands.specs.CommandLine.Forms.{HasNoForm, IsFormat, IsFormatWords, IsLabel, IsList, IsListWords, IsMake}
+use Rattle.commands.specs.CommandLine.Forms.{IsMakeWords, IsPlain, IsPlainWords, IsServe, IsServeWords}
 use Rattle.commands.specs.CommandLine.Forms.{IsGenerations, IsView, IsViewWords}
 use Rattle.commands.specs.declared.command_line.views.ViewWords.{ViewWords}
 use Rattle.commands.specs.declared.command_line.volumes.FormatWords.{FormatWords}
@@ -141,7 +141,7 @@ pub record DoesAsked {D : Type 0} (words : List (String Global)) (gives : Gives)
     (sink : Written) (drive : Ghosts D) (old new : D) (status : ℕ) (log : Option Log) : Type 0 where
   pub plain : (at : Option Moment) → IsPlainWords words at → DoesPlain at gives source sink old new status log
   pub label : IsLabel words → DoesLabel drive old new sink status log
-  pub list : IsList words → DoesList drive old new sink status log
+  pub list : (all : Bool) → IsListWords words all → DoesList all drive old new sink status log
   pub generations : IsGenerations words → DoesGenerations drive old new sink status log
   pub view : (asked : ViewWords) → IsViewWords words asked → DoesView asked drive old new sink status log
   pub format : (asked : FormatWords) → IsFormatWords words asked

@@ -1,7 +1,7 @@
-ghost use Rattle.std.specs.Prelude.{ℕ, IfSome, Option};
+ghost use Rattle.std.specs.Prelude.{ℕ, Bool, IfSome, Option};
 ghost use Rattle.tape_types.specs.declared.moments.Moment.{Moment as Instant};
-ghost use Rattle.commands.specs.CommandLine.Forms.{HasNoForm, IsFormatWords, IsLabel, IsList, IsMakeWords, IsPlain};
-ghost use Rattle.commands.specs.CommandLine.Forms.{IsPlainWords, IsServe, IsServeWords};
+ghost use Rattle.commands.specs.CommandLine.Forms.{HasNoForm, IsFormatWords, IsLabel, IsListWords, IsMakeWords};
+ghost use Rattle.commands.specs.CommandLine.Forms.{IsPlain, IsPlainWords, IsServe, IsServeWords};
 ghost use Rattle.commands.specs.CommandLine.Forms.{IsGenerations, IsViewWords};
 ghost use Rattle.commands.specs.declared.command_line.views.ViewWords.{ViewWords};
 ghost use Rattle.commands.specs.declared.command_line.volumes.FormatWords.{FormatWords};
@@ -65,9 +65,10 @@ pub fn run<
     // `label` prints the labels of the cartridge in the drive, or which check fails, and only looks at it.
     ensures label { IsLabel words.now.items
         → DoesLabel D.Drive drive result.drive (written K.Sink out.old out.new) result.status result.log }
-    // `list` prints the tree as which the cartridge reads, or which check fails, and only looks at it.
-    ensures list { IsList words.now.items
-        → DoesList D.Drive drive result.drive (written K.Sink out.old out.new) result.status result.log }
+    // `list` prints the tree as which the cartridge reads, and with `--all` all of it, or which check fails, and only
+    // looks at the cartridge.
+    ensures list { (all : Bool) → IsListWords words.now.items all
+        → DoesList all D.Drive drive result.drive (written K.Sink out.old out.new) result.status result.log }
     // `generations` prints the generations that the data partition of the cartridge still has, or why none, and `view`
     // the tree of one, or a file of it; both only look at the cartridge.
     ensures generations { IsGenerations words.now.items
@@ -149,7 +150,7 @@ fn run_asked<
     match read_words(alloc, words.as_slice()) {
         Ok(Command::Plain { at }) => run_plain(alloc, at, drive, script, out, clock),
         Ok(Command::Label) => run_label(alloc, drive, out),
-        Ok(Command::List) => run_list(alloc, drive, out),
+        Ok(Command::List { all }) => run_list(alloc, all, drive, out),
         Ok(Command::Generations) => run_generations(alloc, drive, out),
         Ok(Command::View(asked)) => run_view(alloc, asked, drive, out),
         Ok(Command::Format(asked)) => run_format(alloc, asked, drive, out, clock),

@@ -5,6 +5,7 @@ use Rattle.std.specs.Option.{option_map}
 use Rattle.std.specs.FinMap as fin
 use Rattle.std.proofs.lemmas.List.{length-map}
 use Rattle.std.proofs.lemmas.Option.{slice_get-map}
+use Rattle.tape_types.proofs.NodeKeys.ListLaws.{list_entries}
 use Rattle.extent_map.specs.Cells.{Tape}
 use Rattle.index_model.specs.declared.nodes.Node as told
 use Rattle.plain_tree.specs.Paths.{Path, last_name}
@@ -45,6 +46,8 @@ module _ (letters : Letters) (t : FileTree) (good : IsGood t) (tape : Tape) wher
   tells at e is = record {
     uid = refl;
     kind = kind_told letters tape e.1.kind;
+    readonly = refl;
+    keys = list_entries e.1.keys.map;
     name = λ front name path. ap (λ p. name_or t.name (last_name p)) path ∙ ap (name_or t.name) (last_is front name);
     parent = λ front name path.
         let here : slice_get (fin.entries t.nodes) at ≡ Some (front ++ name ∷ [], e.1) = is ∙ ap (λ q. Some (q, e.1)) path in

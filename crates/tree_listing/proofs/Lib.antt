@@ -1,3 +1,5 @@
 pub mod Kept
+pub mod Listed
+pub mod Short
 pub mod Walks
 pub mod Written

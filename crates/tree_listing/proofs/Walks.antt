@@ -7,6 +7,7 @@ use Rattle.std.proofs.Math.Seq.{take-append_seam}
 use Rattle.std.proofs.lemmas.Grind.{flat_map-append}
 use Rattle.std.proofs.lemmas.List.{get_or-map, get_or-take, length-map, length-take-le, map_more}
 use Rattle.std.proofs.lemmas.Option.{get_or_from_slice_get, slice_get_within, same_Some}
+use Rattle.tape_types.specs.NodeKeys.Keys.{entries_of}
 use Rattle.index_model.specs.declared.nodes.Node as told
 use Rattle.index_model.specs.declared.nodes.NodeKind as told_kind
 use Rattle.index_model.specs.declared.nodes.NodeKind.TheVariants as told_kinds
@@ -19,8 +20,8 @@ use Rattle.plain_tree.specs.declared.nodes.Kind.{Kind}
 use Rattle.plain_tree.specs.declared.nodes.Kind.TheVariants as kinds
 use Rattle.plain_tree.proofs.MoveLemmas.{both_true}
 use Rattle.session_script.specs.Escapes.{escaped}
-use Rattle.tree_listing.specs.Listing.{line_of, line_of_kind, names_text, path_text, AreNodesOf, Tells, TellsKind}
-use Rattle.tree_listing.specs.Steps.{AreWalked, next_names, shown, told_line, told_line_of}
+use Rattle.tree_listing.specs.Listing.{key_lines, line_end, lines_of, names_text, path_text, words_of_kind, AreNodesOf, Tells, TellsKind}
+use Rattle.tree_listing.specs.Steps.{AreWalked, next_names, shown, told_keys, told_line, told_lines, told_words_of}
 
 whole_list : {X : Type 0} (l : List X) → l ++ [] ≡ l
 whole_list [] = refl
@@ -86,12 +87,12 @@ shown_path : (p : Path) → shown (names_text p) ≡ path_text p
 shown_path [] = refl
 shown_path (name ∷ p) = refl
 
-same_kind : (path : List ℕ) (uid : ℕ) (told : told_kind.NodeKind) (kind : Kind) → TellsKind told kind → told_line_of path uid told ≡ line_of_kind path uid kind
+same_kind : (path : List ℕ) (uid : ℕ) (told : told_kind.NodeKind) (kind : Kind) → TellsKind told kind → told_words_of path uid told ≡ words_of_kind path uid kind
 same_kind path uid told_kinds.Dir kinds.Dir tells = refl
 same_kind path uid (told_kinds.File size extents) (kinds.File cells) tells =
-    ap (λ n. codes "f " ++ decimal uid ++ codes " " ++ decimal n ++ codes " " ++ path ++ codes "\n") tells
+    ap (λ n. codes "f " ++ decimal uid ++ codes " " ++ decimal n ++ codes " " ++ path) tells
 same_kind path uid (told_kinds.Link text) (kinds.Link same) tells =
-    ap (λ t. codes "l " ++ decimal uid ++ codes " " ++ path ++ codes " " ++ escaped t ++ codes "\n") tells
+    ap (λ t. codes "l " ++ decimal uid ++ codes " " ++ path ++ codes " " ++ escaped t) tells
 same_kind path uid told kind tells = absurd tells
 
 abbrev size_of : (Path × Node) → ℕ
@@ -202,12 +203,28 @@ module _ (nodes : List told.Node) (order : AreInOrder nodes) (tree : Tree) (are 
             ∙ sym (text_more l.u l.x);
       }
 
-  -- its line
-  pub line_is : (at : ℕ) (node : told.Node) (names : List ℕ) (n : IsNext at node names) → told_line names node ≡ line_of n.e
-  line_is at node names n =
-      ap (λ k. told_line k node) n.text ∙ ap (λ k. told_line_of k node.uid node.kind) (shown_path n.e.0)
-      ∙ ap (λ k. told_line_of (path_text n.e.0) k node.kind) n.tells.uid
-      ∙ same_kind (path_text n.e.0) n.e.1.uid node.kind n.e.1.kind n.tells.kind
+  -- its lines
+  pub lines_are : (all : Bool) (at : ℕ) (node : told.Node) (names : List ℕ) (n : IsNext at node names) → told_lines all names node ≡ lines_of all n.e
+  lines_are all at node names n = ap (λ line. line ∷ told_keys all names node.xattrs) own ∙ ap (λ keys. own_line ∷ keys) attributes
+    where
+      path : List ℕ
+      path = path_text n.e.0
+
+      own_line : List ℕ
+      own_line = words_of_kind path n.e.1.uid n.e.1.kind ++ line_end all n.e.1.readonly
+
+      path_is : shown names ≡ path
+      path_is = ap shown n.text ∙ shown_path n.e.0
+
+      own : told_line all names node ≡ own_line
+      own =
+          ap (λ k. told_words_of k node.uid node.kind ++ line_end all node.readonly) path_is
+          ∙ ap (λ k. told_words_of path k node.kind ++ line_end all node.readonly) n.tells.uid
+          ∙ ap (λ k. k ++ line_end all node.readonly) (same_kind path n.e.1.uid node.kind n.e.1.kind n.tells.kind)
+          ∙ ap (λ k. words_of_kind path n.e.1.uid n.e.1.kind ++ line_end all k) n.tells.readonly
+
+      attributes : told_keys all names node.xattrs ≡ key_lines all path (fin.entries n.e.1.keys)
+      attributes = ap (λ k. key_lines all k (entries_of node.xattrs)) path_is ∙ ap (key_lines all path) n.tells.keys
 
   -- one node further
   pub walked_more : (at : ℕ) (node : told.Node) (names ends old : List ℕ) (n : IsNext at node names) → AreWalked es at ends old

@@ -2,13 +2,15 @@ ghost use Rattle.std.specs.Prelude.{◌≡◌, ◌++◌, [], codes, get_or, OnOk
 ghost use Rattle.session_script.specs.Escapes.{escaped};
 ghost use Rattle.tape_types.specs.Counts.{HasCause};
 ghost use Rattle.tape_edge.specs.Streams.{AppendsFront};
-ghost use Rattle.tree_listing.specs.Steps.{next_names, IsPassedOn, IsPut};
+ghost use Rattle.tree_listing.specs.Listing.{key_line};
+ghost use Rattle.tree_listing.specs.Steps.{next_names, shown, IsPassedOn, IsPut, StaysWhere};
 
-use crate::texts::put_line;
+use crate::texts::{put_key, put_line};
 use index_model::Node;
 use session_script::push_escaped;
 use std::alloc::Global;
 use tape_edge::{Sink, WriteFault};
+use tape_types::node_keys::Xattr;
 use tape_types::{NoMemory, Text};
 
 /// So many bytes of lines are passed on together, or a few more.
@@ -43,12 +45,21 @@ impl Lines {
 
     /// Puts the line of the next node behind the others. The nodes come each behind its directory, and all of a
     /// directory's together.
-    pub fn put(&mut self, alloc: Global, node: &Node) -> Result<(), NoMemory>
-        ensures { OnOk result (IsPut self.old self.new node.now) }
+    pub fn put(&mut self, alloc: Global, all: bool, node: &Node) -> Result<(), NoMemory>
+        ensures { OnOk result (IsPut all self.old self.new node.now) }
     {
         go_on(&mut self.names, &mut self.name, &self.ends, node)?;
         self.ends.push(self.names.len())?;
-        put_line(alloc, &mut self.text, &self.names, node)
+        put_line(alloc, &mut self.text, all, &self.names, node)
+    }
+
+    /// Puts the line of an attribute of the last node behind the others.
+    pub fn put_key(&mut self, alloc: Global, xattr: &Xattr) -> Result<(), NoMemory>
+        ensures text { OnOk result (self.new.text.items
+            ≡ self.old.text.items ++ key_line (shown self.old.names.items) (xattr.now.key, xattr.now.value)) }
+        ensures stays { StaysWhere self.old self.new }
+    {
+        put_key(alloc, &mut self.text, &self.names, xattr)
     }
 
     /// Writes the lines that are held, where there are enough of them.
@@ -57,8 +68,7 @@ impl Lines {
             (IsPassedOn (K.written out.old) (K.written out.new) self.old.text.items self.new.text.items) }
         ensures err { OnErr result (AppendsFront (K.written out.old) (K.written out.new) self.old.text.items) }
         ensures cause { HasCause (K.faults out.old) (K.faults out.new) result }
-        ensures names { self.new.names ≡ self.old.names }
-        ensures ends { self.new.ends ≡ self.old.ends }
+        ensures stays { StaysWhere self.old self.new }
     {
         if self.text.len() < FULL {
             return Ok(());

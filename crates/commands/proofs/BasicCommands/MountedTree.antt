@@ -1,5 +1,5 @@
 -- What was mounted has a tree.
-use Rattle.std.proofs.Common.{◌≡◌, ◌∙◌, refl, sym, ap, subst, arith}
+use Rattle.std.proofs.Common.{◌≡◌, ◌∙◌, Bool, refl, sym, ap, subst, arith}
 use Rattle.tape_types.specs.Cartridges.{IsLimits}
 use Rattle.tape_types.specs.declared.cartridges.Cartridge.{Cartridge}
 use Rattle.tape_types.specs.declared.cartridges.Limits.{Limits}
@@ -25,8 +25,8 @@ can_mount limits m range sound =
 -- the tree of the index that is found is what the cartridge reads as
 pub is_listing : (c : Cartridge) (m : Mounted) (found : FoundTree) → Mounts c m → mounts.IsTreeOf (m.label.index, m.label.dpart) m.label.block m.index found.tree
     → found.generation ≡ m.newest → found.spot ≡ record { letter = letter_of m.label m.chosen.part; block = m.chosen.pos }
-    → IsListingOf c (listing_of (tape_of c) found)
-is_listing c m found is tree generation spot = record {
+    → (all : Bool) → IsListingOf c (listing_of all (tape_of c) found)
+is_listing c m found is tree generation spot all = record {
   facts = carried is.found.index;
   reads = record {
     found = is.found;

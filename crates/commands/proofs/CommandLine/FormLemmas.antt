@@ -15,8 +15,8 @@ use Rattle.clap.specs.declared.error.Error.{Error}
 use Rattle.clap.specs.declared.error.kind.ErrorKind.TheVariants as kinds
 use Rattle.tape_types.specs.declared.moments.Moment.{Moment}
 use Rattle.tape_types.proofs.CivilLemmas.{time_text_injective}
-use Rattle.commands.specs.CommandLine.Forms.{IsBehindFolder, IsFormat, IsGenerations, IsView, IsViewTaken, IsLabel, IsList, IsMake, IsMakeForm, IsMakeRead, IsMakeWords, IsMomentForm, IsMomentTaken, IsPlain, IsPlainForm, IsPlainWords, IsReadAs, IsServe, IsServeForm, IsServeRead, IsServeWords, IsSpelledBy, IsTakenAs, IsVolumeAsked}
-use Rattle.commands.specs.CommandLine.Options.{IsMomentGiven, IsMomentRead, Takes, bare, with_moment}
+use Rattle.commands.specs.CommandLine.Forms.{IsBehindFolder, IsFormat, IsGenerations, IsView, IsViewTaken, IsLabel, IsList, IsListForm, IsListRead, IsListWords, IsMake, IsMakeForm, IsMakeRead, IsMakeWords, IsMomentForm, IsMomentTaken, IsPlain, IsPlainForm, IsPlainWords, IsReadAs, IsServe, IsServeForm, IsServeRead, IsServeWords, IsSpelledBy, IsTakenAs, IsVolumeAsked}
+use Rattle.commands.specs.CommandLine.Options.{IsMomentGiven, IsMomentRead, Takes, bare, value_of, with_moment}
 use Rattle.commands.specs.CommandLine.Views.{IsViewForm}
 use Rattle.commands.specs.CommandLine.Volumes.{IsVolumeForm}
 use Rattle.commands.specs.declared.command_line.forms.WordsErr.{WordsErr}
@@ -52,7 +52,7 @@ label_named words is = behind_named (codes "label") (Takes (bare (codes "label")
 
 -- the forms of `list` begin with its name
 pub list_named : (words : List (String Global)) → IsList words → IsNamed (codes "list") words
-list_named words is = behind_named (codes "list") (Takes (bare (codes "list"))) words is
+list_named words is = behind_named (codes "list") (λ more. IsListForm more is.0) words is.1
 
 -- the forms of `generations` begin with its name
 pub generations_named : (words : List (String Global)) → IsGenerations words → IsNamed (codes "generations") words
@@ -98,6 +98,12 @@ behind_folder words name text two first is =
     go (w ∷ []) two first = absurd (omega (arith, two))
     go (w ∷ v ∷ words) two first = (string_bytes v, ap (λ t. t ∷ string_bytes v ∷ map string_bytes words) (ap string_bytes (sym first) ∙ is))
 
+-- the text that a command finds in words for an argument
+pub value_found : (app wanted : App) (words : List Text) (found : ArgMatches) → app ≡ wanted → rows_of (found_of found) ≡ matches_of app words
+    → (name : Text) → first_value (found_of found) name ≡ value_of wanted name words
+value_found app wanted words found same rows name =
+    first_value-rows (found_of found) name ∙ ap (first_of name) (rows ∙ ap (λ (a : App). matches_of a words) same)
+
 -- a text has one moment
 pub one_moment : (text : Option Text) (one other : Option Moment) → IsMomentGiven text one → IsMomentGiven text other → one ≡ other
 one_moment None None None a b = refl
@@ -113,7 +119,7 @@ pub moment_form : (name : Text) (app : App) (words : List Text) (found : ArgMatc
     → text ≡ first_value (found_of found) (codes "at") → IsMomentGiven text at → IsMomentForm name words at
 moment_form name app words found text at same is value given = record {
   takes = subst (λ (a : App). Takes a words) same is.0;
-  moment = subst (λ (t : Option Text). IsMomentGiven t at) (value ∙ first_value-rows (found_of found) (codes "at") ∙ ap (first_of (codes "at")) (is.1 ∙ ap (λ (a : App). matches_of a words) same)) given;
+  moment = subst (λ (t : Option Text). IsMomentGiven t at) (value ∙ value_found app (with_moment (bare name)) words found same is.1 (codes "at")) given;
 }
 
 -- where no moment is read of that text
@@ -121,7 +127,7 @@ pub moment_unread : (name : Text) (app : App) (words : List Text) (found : ArgMa
     → app ≡ with_moment (bare name) → Takes app words × (rows_of (found_of found) ≡ matches_of app words)
     → text ≡ first_value (found_of found) (codes "at") → IsMomentRead text (Err e) → IsMomentTaken name words (Err e)
 moment_unread name app words found text errors.Form same is value none = λ at form. none at
-    (subst (λ (t : Option Text). IsMomentGiven t at) (sym (value ∙ first_value-rows (found_of found) (codes "at") ∙ ap (first_of (codes "at")) (is.1 ∙ ap (λ (a : App). matches_of a words) same))) form.moment)
+    (subst (λ (t : Option Text). IsMomentGiven t at) (sym (value ∙ value_found app (with_moment (bare name)) words found same is.1 (codes "at"))) form.moment)
 moment_unread name app words found text errors.NoMemory same is value none = tt
 
 -- words have one moment
@@ -138,6 +144,13 @@ one_serve words one other (folder, more, is, form) (dir, rest, are, again) =
     let moved : IsServeForm more other = subst (λ w. IsServeForm w other) same again in
     one_moment _ one other form.moment moved.moment
 
+-- words tell one thing of `--all`
+pub one_list : (words : List (String Global)) (one other : Bool) → IsListWords words one → IsListWords words other → one ≡ other
+one_list words one other (folder, more, is, form) (dir, rest, are, again) =
+    let same : rest ≡ more = ap (drop 2) (sym are ∙ is) in
+    let moved : IsListForm more other = subst (λ w. IsListForm w other) same again in
+    sym form.told ∙ moved.told
+
 -- words ask for one count and one moment
 pub one_make : (words : List (String Global)) (count number : ℕ) (one other : Option Moment) → IsMakeWords words count one → IsMakeWords words number other → (count ≡ number) × (one ≡ other)
 one_make words count number one other (folder, more, is, form) (dir, rest, are, again) =
@@ -151,7 +164,7 @@ pub plain_spelled : (words : List (String Global)) (more : List Text) (r : Resul
     → IsSpelledBy words r
 plain_spelled words more (Ok (commands.Plain at)) is form = (more, is, form)
 plain_spelled words more (Ok commands.Label) is form = absurd form
-plain_spelled words more (Ok commands.List) is form = absurd form
+plain_spelled words more (Ok (commands.List all)) is form = absurd form
 plain_spelled words more (Ok commands.Generations) is form = absurd form
 plain_spelled words more (Ok (commands.View asked)) is form = absurd form
 plain_spelled words more (Ok (commands.Format asked)) is form = absurd form
@@ -189,13 +202,20 @@ label_spelled words folder more (Err errors.NoMemory) is none = tt
 
 -- words that begin with `list` and a folder are read as its forms say
 pub list_spelled : (words : List (String Global)) (folder : Text) (more : List Text) (r : Result Command WordsErr) → map string_bytes words ≡ codes "list" ∷ folder ∷ more
-    → IsTakenAs (bare (codes "list")) more commands.List r → IsSpelledBy words r
-list_spelled words folder more (Ok command) is takes = subst (λ (k : Command). IsSpelledBy words (Ok k)) (sym takes.0) (folder, more, is, takes.1)
+    → IsListRead more r → IsSpelledBy words r
+list_spelled words folder more (Ok (commands.Plain at)) is form = absurd form
+list_spelled words folder more (Ok commands.Label) is form = absurd form
+list_spelled words folder more (Ok (commands.List all)) is form = (folder, more, is, form)
+list_spelled words folder more (Ok commands.Generations) is form = absurd form
+list_spelled words folder more (Ok (commands.View asked)) is form = absurd form
+list_spelled words folder more (Ok (commands.Format asked)) is form = absurd form
+list_spelled words folder more (Ok (commands.Serve at)) is form = absurd form
+list_spelled words folder more (Ok (commands.Make count at)) is form = absurd form
 list_spelled words folder more (Err errors.Form) is none =
     let named : IsNamed (codes "list") words = (folder ∷ more, is) in record {
       no_plain = λ plain. names_differ words (codes "list") (codes "plain") refl named (plain_named words plain);
       no_label = λ label. names_differ words (codes "list") (codes "label") refl named (label_named words label);
-      no_list = λ list. none (subst (Takes (bare (codes "list"))) (ap (drop 2) (sym list.2 ∙ is)) list.3);
+      no_list = λ list. none list.0 (subst (λ w. IsListForm w list.0) (ap (drop 2) (sym list.1.2 ∙ is)) list.1.3);
       no_generations = λ generations. names_differ words (codes "list") (codes "generations") refl named (generations_named words generations);
       no_view = λ view. names_differ words (codes "list") (codes "view") refl named (view_named words view);
       no_format = λ format. names_differ words (codes "list") (codes "format") refl named (format_named words format);
@@ -209,7 +229,7 @@ pub format_spelled : (words : List (String Global)) (folder : Text) (more : List
     → IsVolumeAsked more r → IsSpelledBy words r
 format_spelled words folder more (Ok (commands.Plain at)) is form = absurd form
 format_spelled words folder more (Ok commands.Label) is form = absurd form
-format_spelled words folder more (Ok commands.List) is form = absurd form
+format_spelled words folder more (Ok (commands.List all)) is form = absurd form
 format_spelled words folder more (Ok commands.Generations) is form = absurd form
 format_spelled words folder more (Ok (commands.View asked)) is form = absurd form
 format_spelled words folder more (Ok (commands.Format asked)) is form = (folder, more, is, form)
@@ -233,7 +253,7 @@ pub serve_spelled : (words : List (String Global)) (folder : Text) (more : List 
     → IsServeRead more r → IsSpelledBy words r
 serve_spelled words folder more (Ok (commands.Plain at)) is form = absurd form
 serve_spelled words folder more (Ok commands.Label) is form = absurd form
-serve_spelled words folder more (Ok commands.List) is form = absurd form
+serve_spelled words folder more (Ok (commands.List all)) is form = absurd form
 serve_spelled words folder more (Ok commands.Generations) is form = absurd form
 serve_spelled words folder more (Ok (commands.View asked)) is form = absurd form
 serve_spelled words folder more (Ok (commands.Format asked)) is form = absurd form
@@ -257,7 +277,7 @@ pub make_spelled : (words : List (String Global)) (folder : Text) (more : List T
     → IsMakeRead more r → IsSpelledBy words r
 make_spelled words folder more (Ok (commands.Plain at)) is form = absurd form
 make_spelled words folder more (Ok commands.Label) is form = absurd form
-make_spelled words folder more (Ok commands.List) is form = absurd form
+make_spelled words folder more (Ok (commands.List all)) is form = absurd form
 make_spelled words folder more (Ok commands.Generations) is form = absurd form
 make_spelled words folder more (Ok (commands.View asked)) is form = absurd form
 make_spelled words folder more (Ok (commands.Format asked)) is form = absurd form
@@ -298,7 +318,7 @@ pub view_spelled : (words : List (String Global)) (folder : Text) (more : List T
     → IsViewTaken more r → IsSpelledBy words r
 view_spelled words folder more (Ok (commands.Plain at)) is form = absurd form
 view_spelled words folder more (Ok commands.Label) is form = absurd form
-view_spelled words folder more (Ok commands.List) is form = absurd form
+view_spelled words folder more (Ok (commands.List all)) is form = absurd form
 view_spelled words folder more (Ok commands.Generations) is form = absurd form
 view_spelled words folder more (Ok (commands.View asked)) is form = (folder, more, is, form)
 view_spelled words folder more (Ok (commands.Format asked)) is form = absurd form

@@ -1,17 +1,17 @@
 -- The count and the moment that the words of `make` ask for.
 use Rattle.std.proofs.Common.{◌≡◌, ◌∙◌, ℕ, List, Option, Some, None, Err, codes, sym, ap, subst}
-use Rattle.clap.specs.Words.{App, Text, first_of, first_value, found_of, matches_of, rows_of}
+use Rattle.clap.specs.Words.{App, Text, first_value, found_of, matches_of, rows_of}
 use Rattle.clap.specs.declared.parser.matches.ArgMatches.{ArgMatches}
-use Rattle.clap.proofs.WalkLemmas.{first_value-rows}
 use Rattle.tape_types.specs.declared.moments.Moment.{Moment}
 use Rattle.commands.specs.CommandLine.Forms.{IsMakeForm, IsMakeRead, count_told, make_app}
 use Rattle.commands.specs.CommandLine.Options.{IsMomentGiven, IsMomentRead, Takes, value_of}
 use Rattle.commands.specs.declared.command_line.forms.WordsErr.{WordsErr}
 use Rattle.commands.specs.declared.command_line.forms.WordsErr.TheVariants as errors
+use Rattle.commands.proofs.CommandLine.FormLemmas.{value_found}
 
 module _ (app : App) (words : List Text) (found : ArgMatches) (same : app ≡ make_app) (is : Takes app words × (rows_of (found_of found) ≡ matches_of app words)) where
   found_value : (name : Text) → first_value (found_of found) name ≡ value_of make_app name words
-  found_value name = first_value-rows (found_of found) name ∙ ap (first_of name) (is.1 ∙ ap (λ (a : App). matches_of a words) same)
+  found_value name = value_found app make_app words found same is.1 name
 
   -- where both are told
   pub make_form : (number text : Option Text) (count : ℕ) (at : Option Moment) → number ≡ first_value (found_of found) (codes "count") → count_told number ≡ Some count

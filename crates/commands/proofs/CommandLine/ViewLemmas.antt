@@ -1,29 +1,40 @@
 -- What the words of `view` ask for.
-use Rattle.std.proofs.Common.{◌≡◌, ◌∙◌, List, drop, Option, Some, None, Err, String, codes, sym, ap, subst}
+use Rattle.std.proofs.Common.{◌≡◌, ◌∙◌, ℕ, Bool, true, false, List, drop, Option, Some, None, Err, String, codes, refl, sym, ap, subst}
 use Rattle.std.specs.Global.{Global}
-use Rattle.clap.specs.Words.{App, Text, first_of, first_value, found_of, matches_of, rows_of}
+use Rattle.clap.specs.Words.{App, Text, first_value, found_of, matches_of, rows_of}
 use Rattle.clap.specs.declared.parser.matches.ArgMatches.{ArgMatches}
-use Rattle.clap.proofs.WalkLemmas.{first_value-rows}
 use Rattle.plain_tree.specs.Paths.{Path}
 use Rattle.commands.specs.CommandLine.Forms.{IsViewWords}
-use Rattle.commands.specs.CommandLine.Options.{IsReadTo, Takes, value_of}
-use Rattle.commands.specs.CommandLine.Views.{IsViewForm, IsViewRead, generation_told, path_told, view_app}
+use Rattle.commands.specs.CommandLine.Options.{IsReadTo, Takes, is_given, value_of}
+use Rattle.commands.specs.CommandLine.Views.{IsViewForm, IsViewRead, asked_of, generation_told, path_told, view_app}
 use Rattle.commands.specs.declared.command_line.forms.WordsErr.{WordsErr}
 use Rattle.commands.specs.declared.command_line.forms.WordsErr.TheVariants as errors
 use Rattle.commands.specs.declared.command_line.views.ViewWords.{ViewWords}
+use Rattle.commands.proofs.CommandLine.FormLemmas.{value_found}
 
 module _ (app : App) (words : List Text) (found : ArgMatches) (same : app ≡ view_app) (is : Takes app words × (rows_of (found_of found) ≡ matches_of app words)) where
   found_value : (name : Text) → first_value (found_of found) name ≡ value_of view_app name words
-  found_value name = first_value-rows (found_of found) name ∙ ap (first_of name) (is.1 ∙ ap (λ (a : App). matches_of a words) same)
+  found_value name = value_found app view_app words found same is.1 name
 
   -- where both are told
-  pub view_form : (number text : Option Text) (asked : ViewWords) → number ≡ first_value (found_of found) (codes "generation")
-      → generation_told number ≡ Some asked.generation → text ≡ first_value (found_of found) (codes "read") → path_told text ≡ Some asked.path → IsViewForm words asked
-  view_form number text asked numbered told given path = record {
-    takes = subst (λ (a : App). Takes a words) same is.0;
-    generation = ap generation_told (sym (numbered ∙ found_value (codes "generation"))) ∙ told;
-    path = ap path_told (sym (given ∙ found_value (codes "read"))) ∙ path;
-  }
+  pub view_form : (number text flag : Option Text) (generation : ℕ) (path : Option Path) (all : Bool) → number ≡ first_value (found_of found) (codes "generation")
+      → generation_told number ≡ Some generation → text ≡ first_value (found_of found) (codes "read") → path_told text ≡ Some path
+      → flag ≡ first_value (found_of found) (codes "all") → all ≡ is_given flag → IsViewRead words (asked_of generation path all)
+  view_form number text flag generation path all numbered told given path_is flagged all_is =
+      by path all
+      (ap generation_told (sym (numbered ∙ found_value (codes "generation"))) ∙ told)
+      (ap path_told (sym (given ∙ found_value (codes "read"))) ∙ path_is)
+      (ap is_given (sym (flagged ∙ found_value (codes "all"))) ∙ sym all_is)
+    where
+      by : (path : Option Path) (all : Bool) → generation_told (value_of view_app (codes "generation") words) ≡ Some generation
+          → path_told (value_of view_app (codes "read") words) ≡ Some path → is_given (value_of view_app (codes "all") words) ≡ all → IsViewRead words (asked_of generation path all)
+      by path false number file all =
+          record { takes = subst (λ (a : App). Takes a words) same is.0; generation = number; path = file; all = all; apart = λ yes. cc yes }
+      by None true number file all =
+          record { takes = subst (λ (a : App). Takes a words) same is.0; generation = number; path = file; all = all; apart = λ yes. refl }
+      by (Some path) true number file all = λ asked form.
+          let none : asked.path ≡ None = form.apart (sym form.all ∙ all) in
+          let both : Some (Some path) ≡ Some None = sym file ∙ form.path ∙ ap Some none in cc both
 
   -- where no generation is told
   pub view_unnumbered : (number : Option Text) → number ≡ first_value (found_of found) (codes "generation") → generation_told number ≡ None
@@ -46,4 +57,5 @@ one_view words one other (folder, more, is, form) (dir, rest, are, again) =
     let paths : Some one.path ≡ Some other.path = sym form.path ∙ moved.path in
     let generation : one.generation ≡ other.generation = cc generations in
     let path : one.path ≡ other.path = cc paths in
-    λ i. record { generation = generation i; path = path i }
+    let all : one.all ≡ other.all = sym form.all ∙ moved.all in
+    λ i. record { generation = generation i; path = path i; all = all i }

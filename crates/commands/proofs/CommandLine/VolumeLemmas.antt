@@ -1,9 +1,8 @@
 -- The volume that words ask for.
 use Rattle.std.proofs.Common.{◌≡◌, ◌∙◌, List, drop, Option, Some, None, Err, String, codes, sym, ap, subst}
 use Rattle.std.specs.Global.{Global}
-use Rattle.clap.specs.Words.{App, Text, first_of, first_value, found_of, matches_of, rows_of}
+use Rattle.clap.specs.Words.{App, Text, first_value, found_of, matches_of, rows_of}
 use Rattle.clap.specs.declared.parser.matches.ArgMatches.{ArgMatches}
-use Rattle.clap.proofs.WalkLemmas.{first_value-rows}
 use Rattle.format_volume.specs.Refusals.{spec_fault}
 use Rattle.format_volume.specs.declared.requests.Field.{Field}
 use Rattle.tape_types.specs.declared.moments.Moment.{Moment}
@@ -14,7 +13,7 @@ use Rattle.commands.specs.declared.command_line.forms.WordsErr.{WordsErr}
 use Rattle.commands.specs.declared.command_line.forms.WordsErr.TheVariants as errors
 use Rattle.commands.specs.declared.command_line.volumes.FormatWords.{FormatWords}
 use Rattle.tape_types.proofs.CivilLemmas.{same_moment}
-use Rattle.commands.proofs.CommandLine.FormLemmas.{one_moment}
+use Rattle.commands.proofs.CommandLine.FormLemmas.{one_moment, value_found}
 
 same_of : {A : Type 0} (told : Option A) (x y : A) → told ≡ Some x → told ≡ Some y → x ≡ y
 same_of told x y one other = let both : Some x ≡ Some y = sym one ∙ other in cc both
@@ -52,7 +51,7 @@ told_alike f g asked same is = record {
 
 module _ (app : App) (words : List Text) (found : ArgMatches) (same : app ≡ format_app) (is : Takes app words × (rows_of (found_of found) ≡ matches_of app words)) where
   found_value : (name : Text) → first_value (found_of found) name ≡ value_of format_app name words
-  found_value name = first_value-rows (found_of found) name ∙ ap (first_of name) (is.1 ∙ ap (λ (a : App). matches_of a words) same)
+  found_value name = value_found app format_app words found same is.1 name
 
   -- what was found tells the volume that the words ask for
   pub volume_form : (asked : FormatWords) → IsTold (given_by (first_value (found_of found))) asked

@@ -1,6 +1,6 @@
 -- What is told with status 0 or 3: a run of a script by the plain tree, the labels of a cartridge, its tree.
-use Rattle.std.specs.Prelude.{◌≡◌, ◌⊎◌, ℕ, ◌+◌, List, [], ◌++◌, map, length, Err, Option, Some, None, IfSome, codes}
-use Rattle.std.specs.Prelude.{decimal, slice_get}
+use Rattle.std.specs.Prelude.{◌≡◌, ◌⊎◌, ℕ, Bool, ◌+◌, List, [], ◌++◌, map, length, Err, Option, Some, None, IfSome}
+use Rattle.std.specs.Prelude.{codes, decimal, slice_get}
 use Rattle.std.specs.Io.KnownBytes.{Appends}
 use Rattle.tape_types.specs.Counts.{IsRise, Rose}
 use Rattle.tape_types.specs.declared.moments.Moment.{Moment}
@@ -12,9 +12,8 @@ use Rattle.cartridge_meaning.specs.declared.errors.MountErr.{MountErr}
 use Rattle.cartridge_meaning.specs.Faults.{MountFault}
 use Rattle.cartridge_meaning.specs.declared.errors.MountErr.TheVariants as errors
 use Rattle.tape_types.specs.declared.cartridges.Twin.{Twin}
-use Rattle.tree_listing.specs.Listing.{first_lines}
 use Rattle.commands.specs.BasicCommands.Labels.{labels_text, mount_status, mount_text}
-use Rattle.commands.specs.BasicCommands.Listings.{IsListingOf, Listing, text_of_listing}
+use Rattle.commands.specs.BasicCommands.Listings.{IsListingFor, Listing, part_of_listing, text_of_listing}
 use Rattle.commands.specs.BasicCommands.Runs.{Gives}
 use Rattle.plain_tree.specs.History.{IsInterleaving}
 use Rattle.plain_tree.specs.Tree.{empty_tree}
@@ -98,13 +97,12 @@ IsMountFaultPrinted held old new =
     (e : MountErr) × (mount_status e ≡ 3) × IfSome held (λ c. MountFault c e) × Appends old new (mount_text e)
 
 -- a listing was printed, and where the drive told a cartridge it is that of what this stands for
-abbrev pub IsListingPrinted : Option Cartridge → (old new : Option (List ℕ)) → Type 0
-IsListingPrinted held old new =
-    (l : Listing) × IfSome held (λ c. IsListingOf c l) × Appends old new (text_of_listing l)
+abbrev pub IsListingPrinted : (all : Bool) → Option Cartridge → (old new : Option (List ℕ)) → Type 0
+IsListingPrinted all held old new =
+    (l : Listing) × IsListingFor all held l × Appends old new (text_of_listing l)
 
 -- so many whole lines of such a listing, from its front, may have been printed, and then that memory was refused
-abbrev pub IsPartPrinted : Option Cartridge → (old new : Option (List ℕ)) → Type 0
-IsPartPrinted held old new =
+abbrev pub IsPartPrinted : (all : Bool) → Option Cartridge → (old new : Option (List ℕ)) → Type 0
+IsPartPrinted all held old new =
     Appends old new (codes "memory\n")
-    ⊎ ((l : Listing) × IfSome held (λ c. IsListingOf c l)
-    × (count : ℕ) × Appends old new (first_lines count l.tree ++ codes "memory\n"))
+    ⊎ ((l : Listing) × IsListingFor all held l × (count : ℕ) × Appends old new (part_of_listing count l))

@@ -1,5 +1,5 @@
 -- What a command comes to that needs no served volume: when it comes to that, and what is told then.
-use Rattle.std.specs.Prelude.{◌≡◌, ◌⊎◌, ℕ, List, ◌++◌, Option, Some, None, Err, IfSome, codes}
+use Rattle.std.specs.Prelude.{◌≡◌, ◌⊎◌, ℕ, Bool, List, Option, Some, None, Err, IfSome, codes}
 use Rattle.std.specs.Io.KnownBytes.{Appends}
 use Rattle.tape_types.specs.Counts.{Rose, IsRise}
 use Rattle.tape_types.specs.declared.moments.Moment.{Moment}
@@ -11,10 +11,9 @@ use Rattle.mount_recover.specs.Steps.{Blames}
 use Rattle.cartridge_meaning.specs.Labels.{HasLabels}
 use Rattle.cartridge_meaning.specs.declared.labels.Labels.{Labels}
 use Rattle.cartridge_meaning.specs.declared.errors.MountErr.{MountErr}
-use Rattle.tree_listing.specs.Listing.{first_lines}
 use Rattle.commands.specs.BasicCommands.Formats.{FormatEnd, end_status, end_text}
 use Rattle.commands.specs.BasicCommands.Labels.{labels_text, mount_status, mount_text}
-use Rattle.commands.specs.BasicCommands.Listings.{IsListingOf, Listing, text_of_listing}
+use Rattle.commands.specs.BasicCommands.Listings.{IsListingFor, Listing, part_of_listing, text_of_listing}
 use Rattle.commands.specs.BasicCommands.Headline.{IsPlainRun, done_text, refusal_line, source_line}
 use Rattle.commands.specs.BasicCommands.Runs.{Gives, IsRunOf, Looked, Taken, Written}
 use Rattle.commands.specs.declared.basic_commands.plain.PlainEnd.{PlainEnd}
@@ -77,14 +76,14 @@ list_status (unlisted error) = mount_status error
 
 abbrev pub list_text : ListEnd → List ℕ
 list_text (listed l) = text_of_listing l
-list_text (cut_short l count) = first_lines count l.tree ++ codes "memory\n"
+list_text (cut_short l count) = part_of_listing count l
 list_text (unlisted error) = mount_text error
 
 -- when `list` ends so
-abbrev pub IsListEnd : Looked → ListEnd → Type 0
-IsListEnd drive (listed l) = IfSome drive.held (λ c. IsListingOf c l)
-IsListEnd drive (cut_short l count) = IfSome drive.held (λ c. IsListingOf c l)
-IsListEnd drive (unlisted error) = IfSome drive.held (λ c. Blames error c) × AreCounts drive.before drive.now error
+abbrev pub IsListEnd : (all : Bool) → Looked → ListEnd → Type 0
+IsListEnd all drive (listed l) = IsListingFor all drive.held l
+IsListEnd all drive (cut_short l count) = IsListingFor all drive.held l
+IsListEnd all drive (unlisted error) = IfSome drive.held (λ c. Blames error c) × AreCounts drive.before drive.now error
 
 -- what a command comes to that needs no served volume
 pub data BasicEnding : Type 0 where
@@ -125,4 +124,4 @@ EndsAs e sink status log = (log ≡ log_of e) × IsTold (status_of e) (text_of e
 abbrev pub IsListingTold : Listing → Written → (status : ℕ) → Type 0
 IsListingTold l sink status =
     IsTold 0 (text_of_listing l) sink status
-    ⊎ ((count : ℕ) × IsTold 7 (first_lines count l.tree ++ codes "memory\n") sink status)
+    ⊎ ((count : ℕ) × IsTold 7 (part_of_listing count l) sink status)

@@ -1,6 +1,6 @@
 -- What is promised of each command that needs no served volume: its status, what it prints, and what it leaves of the
 -- drive.
-use Rattle.std.specs.Prelude.{◌≡◌, ℕ, ◌+◌, ◌*◌, [], ◌∷◌, Option, None, IfSome, IsErr, IsOk, codes}
+use Rattle.std.specs.Prelude.{◌≡◌, ℕ, Bool, ◌+◌, ◌*◌, [], ◌∷◌, Option, None, IfSome, IsErr, IsOk, codes}
 use Rattle.std.specs.Io.KnownBytes.{Appends}
 use Rattle.tape_types.specs.Counts.{Rose}
 use Rattle.tape_types.specs.declared.cartridges.Cartridge.{Cartridge}
@@ -72,11 +72,11 @@ pub record DoesLabel {D : Type 0} (drive : Ghosts D) (old new : D) (sink : Writt
 abbrev pub ReadsAsNone : Cartridge → Type 0
 ReadsAsNone c = (facts : Carried) (tree : Tree) (generation : ℕ) → ¬ Reads c facts tree generation
 
--- `list`, of the cartridge that the drive held, where it tells that
-pub record DoesList {D : Type 0} (drive : Ghosts D) (old new : D) (sink : Written) (status : ℕ) (log : Option Log)
-    : Type 0 where
+-- `list`, with or without `--all`, of the cartridge that the drive held, where it tells that
+pub record DoesList {D : Type 0} (all : Bool) (drive : Ghosts D) (old new : D) (sink : Written) (status : ℕ)
+    (log : Option Log) : Type 0 where
   pub statuses : IsOneOf status (0 ∷ 3 ∷ 4 ∷ 6 ∷ 7 ∷ [])
-  pub printed : status ≡ 0 → IsListingPrinted (drive.held old) sink.old sink.new
+  pub printed : status ≡ 0 → IsListingPrinted all (drive.held old) sink.old sink.new
   -- a cartridge that reads as no tree is told by its first check that fails, unless the drive or the sink fails or
   -- memory is refused, and only such a cartridge
   pub volume : IfSome (drive.held old) (λ c. ReadsAsNone c → IsOneOf status (3 ∷ 4 ∷ 6 ∷ 7 ∷ []))
@@ -84,14 +84,14 @@ pub record DoesList {D : Type 0} (drive : Ghosts D) (old new : D) (sink : Writte
   pub only_drive : status ≡ 4 → IsDriveFaultPrinted (drive.faults old) (drive.faults new) sink.old sink.new
   pub only_write : status ≡ 6 → Rose sink.before sink.now
   -- whole lines of the tree from the front may stand before the line that tells it
-  pub memory : status ≡ 7 → IsPartPrinted (drive.held old) sink.old sink.new
+  pub memory : status ≡ 7 → IsPartPrinted all (drive.held old) sink.old sink.new
   -- with a cartridge that passes all checks and no fault all is done, unless memory is refused
   pub complete : ¬ (Rose (drive.faults old) (drive.faults new)) → ¬ (Rose sink.before sink.now)
       → IfSome (drive.held old) (λ c. Found c → IsOneOf status (0 ∷ 7 ∷ []))
   -- the cartridge is only looked at
   pub looks : Looks drive (mount_most (drive.limits old) * drive.MOST) old new
   pub no_log : log ≡ None
-  pub told : (end : ListEnd) × IsListEnd (looked drive old new) end × EndsAs (of_list end) sink status log
+  pub told : (end : ListEnd) × IsListEnd all (looked drive old new) end × EndsAs (of_list end) sink status log
 
 -- `format`, with the values of the words, of whatever cartridge the drive held
 pub record DoesFormat {D : Type 0} (asked : FormatWords) (gives : Gives) (drive : Ghosts D) (old new : D)

@@ -1,13 +1,14 @@
 -- The forms of a command line's words: a command's name, its folder where it has one, and words that clap's simple
 -- command takes, with options in any order, as `--x VALUE` or `--x=VALUE`.
-use Rattle.std.specs.Prelude.{◌≡◌, ℕ, List, ◌∷◌, map, Option, Some, None, Result, Ok, Err, String, codes, string_bytes}
-use Rattle.std.specs.Prelude.{◌&&◌, nat_le, if◌then◌else◌, option_and_then}
+use Rattle.std.specs.Prelude.{◌≡◌, ℕ, Bool, List, ◌∷◌, map, Option, Some, None, Result, Ok, Err, String, codes}
+use Rattle.std.specs.Prelude.{◌&&◌, nat_le, if◌then◌else◌, option_and_then, string_bytes}
 use Rattle.std.specs.Global.{Global}
 use Rattle.clap.specs.Words.{App, Text, with_rule}
 use Rattle.session_script.specs.Bounds.{most_calls}
 use Rattle.session_script.specs.Words.{number_of}
 use Rattle.tape_types.specs.declared.moments.Moment.{Moment}
-use Rattle.commands.specs.CommandLine.Options.{IsMomentGiven, Takes, bare, positional, value_of, with_moment}
+use Rattle.commands.specs.CommandLine.Options.{IsMomentGiven, Takes, bare, is_given, positional, value_of}
+use Rattle.commands.specs.CommandLine.Options.{with_all, with_moment}
 use Rattle.commands.specs.CommandLine.Views.{IsViewForm}
 use Rattle.commands.specs.CommandLine.Volumes.{IsVolumeForm}
 use Rattle.commands.specs.declared.command_line.forms.WordsErr.{WordsErr}
@@ -29,6 +30,14 @@ IsPlainForm words at = IsMomentForm (codes "plain") words at
 -- the words behind `serve` and its folder, and the moment of `--at`
 abbrev pub IsServeForm : List Text → Option Moment → Type 0
 IsServeForm words at = IsMomentForm (codes "serve") words at
+
+abbrev pub list_app : App
+list_app = with_all (bare (codes "list"))
+
+-- the words behind `list` and its folder, and whether `--all` is among them
+pub record IsListForm (words : List Text) (all : Bool) : Type 0 where
+  pub takes : Takes list_app words
+  pub told : is_given (value_of list_app (codes "all") words) ≡ all
 
 -- `N`, and `--at`
 abbrev pub make_app : App
@@ -66,15 +75,19 @@ IsOfFolder name words = IsBehindFolder name (Takes (bare name)) words
 abbrev pub IsLabel : List (String Global) → Type 0
 IsLabel words = IsOfFolder (codes "label") words
 
--- the words are those of `list DIR`
+-- The words are `list DIR`, and maybe `--all`.
+abbrev pub IsListWords : List (String Global) → Bool → Type 0
+IsListWords words all = IsBehindFolder (codes "list") (λ more. IsListForm more all) words
+
+-- the words are of one of the forms of `list`
 abbrev pub IsList : List (String Global) → Type 0
-IsList words = IsOfFolder (codes "list") words
+IsList words = (all : Bool) × IsListWords words all
 
 -- the words are those of `generations DIR`
 abbrev pub IsGenerations : List (String Global) → Type 0
 IsGenerations words = IsOfFolder (codes "generations") words
 
--- The words are `view DIR G`, with a number of 1 to 2^62, and maybe `--read PATH`.
+-- The words are `view DIR G`, with a number of 1 to 2^62, and maybe `--read PATH` or `--all`.
 abbrev pub IsViewWords : List (String Global) → ViewWords → Type 0
 IsViewWords words asked = IsBehindFolder (codes "view") (λ more. IsViewForm more asked) words
 
@@ -117,12 +130,12 @@ pub record HasNoForm (words : List (String Global)) : Type 0 where
   pub no_serve : ¬ (IsServe words)
   pub no_make : ¬ (IsMake words)
 
--- what the words spell: those of `plain` or of `serve` with this moment, those of `label`, of `list` or of
--- `generations`, those of `view`, of `format` or of `make` with these values, or of no form
+-- what the words spell: those of `plain` or of `serve` with this moment, those of `label` or of `generations`, those
+-- of `list`, of `view`, of `format` or of `make` with these values, or of no form
 abbrev pub IsSpelledBy : List (String Global) → Result Command WordsErr → Type 0
 IsSpelledBy words (Ok (commands.Plain at)) = IsPlainWords words at
 IsSpelledBy words (Ok commands.Label) = IsLabel words
-IsSpelledBy words (Ok commands.List) = IsList words
+IsSpelledBy words (Ok (commands.List all)) = IsListWords words all
 IsSpelledBy words (Ok commands.Generations) = IsGenerations words
 IsSpelledBy words (Ok (commands.View asked)) = IsViewWords words asked
 IsSpelledBy words (Ok (commands.Format asked)) = IsFormatWords words asked
@@ -150,6 +163,13 @@ IsServeRead words (Ok (commands.Serve at)) = IsServeForm words at
 IsServeRead words (Ok command) = ⊥
 IsServeRead words (Err errors.Form) = (at : Option Moment) → ¬ (IsServeForm words at)
 IsServeRead words (Err errors.NoMemory) = Unit {0}
+
+-- the words behind `list` and its folder are of its form, and tell this of `--all`
+abbrev pub IsListRead : List Text → Result Command WordsErr → Type 0
+IsListRead words (Ok (commands.List all)) = IsListForm words all
+IsListRead words (Ok command) = ⊥
+IsListRead words (Err errors.Form) = (all : Bool) → ¬ (IsListForm words all)
+IsListRead words (Err errors.NoMemory) = Unit {0}
 
 -- the words behind `make` and its folder are of its form, with this count and this moment
 abbrev pub IsMakeRead : List Text → Result Command WordsErr → Type 0

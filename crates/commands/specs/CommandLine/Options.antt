@@ -1,9 +1,10 @@
 -- What clap's simple commands take and find in words.
-use Rattle.std.specs.Prelude.{◌≡◌, ℕ, true, List, [], Option, Some, None, Result, Ok, Err, codes}
+use Rattle.std.specs.Prelude.{◌≡◌, ℕ, Bool, true, false, List, [], Option, Some, None, Result, Ok, Err, codes}
+use Rattle.std.specs.Str.{bytes_eq}
 use Rattle.clap.specs.Words.{App, Rule, Text, fault_of, first_of, found_of, matches_of, new_app, new_rule, rows_of}
 use Rattle.clap.specs.Words.{with_rule}
 use Rattle.clap.specs.Simple.{on_top}
-use Rattle.clap.specs.declared.builder.action.ArgAction.TheVariants.{Set}
+use Rattle.clap.specs.declared.builder.action.ArgAction.TheVariants.{Set, SetTrue}
 use Rattle.clap.specs.declared.parser.matches.ArgMatches.{ArgMatches}
 use Rattle.tape_types.specs.Times.{time_text}
 use Rattle.tape_types.specs.declared.moments.Moment.{Moment}
@@ -15,6 +16,10 @@ use Rattle.commands.specs.declared.command_line.forms.WordsErr.TheVariants as er
 abbrev pub option : Text → Rule
 option name = record (new_rule name) { long = Some name; action = Some Set }
 
+-- an option without a value
+abbrev pub flag : Text → Rule
+flag name = record (new_rule name) { long = Some name; action = Some SetTrue }
+
 -- a word that has to stand
 abbrev pub positional : Text → Rule
 positional name = record (new_rule name) { required = true; action = Some Set }
@@ -22,6 +27,10 @@ positional name = record (new_rule name) { required = true; action = Some Set }
 -- a command that takes no word and no option: its first word is no name, and there is no flag for help
 abbrev pub bare : Text → App
 bare name = on_top (λ s. record s { no_binary_name = true; disable_help_flag = true }) (new_app name)
+
+-- it takes the option `--all` too
+abbrev pub with_all : App → App
+with_all app = with_rule app (flag (codes "all"))
 
 -- it takes the option `--at` too
 abbrev pub with_moment : App → App
@@ -34,6 +43,11 @@ Takes app words = fault_of app words ≡ []
 -- the value of an argument, where the words have it
 abbrev pub value_of : App → Text → List Text → Option Text
 value_of app name words = first_of name (matches_of app words)
+
+-- whether the words have an option without a value, by the text that stands for it
+abbrev pub is_given : Option Text → Bool
+is_given None = false
+is_given (Some text) = bytes_eq text (codes "true")
 
 -- the moment of a time text of the years 1970 to 9999, or none where there is no text
 abbrev pub IsMomentGiven : Option Text → Option Moment → Type 0

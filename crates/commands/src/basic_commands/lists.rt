@@ -1,4 +1,4 @@
-ghost use Rattle.std.specs.Prelude.{◌≡◌, ◌*◌, Some, IfOk, IfErr, IfSome};
+ghost use Rattle.std.specs.Prelude.{◌≡◌, ◌*◌, Bool, Some, IfOk, IfErr, IfSome};
 ghost use Rattle.extent_map.specs.Cells.{Tape, tape_of};
 ghost use Rattle.tape_drive.specs.Looks.{Looks};
 ghost use Rattle.cartridge_meaning.specs.Notes.{HasHonestNotes};
@@ -36,15 +36,15 @@ pub struct FoundTree {
 }
 
 /// The command `list`: mounts the cartridge, and writes a line for each node of its tree and one for its index, a piece
-/// at a time. Nothing is written to the cartridge.
-pub fn run_list<D: Drive, K: Sink>(alloc: Global, drive: D, out: &mut K) -> Ended<D>
+/// at a time; where all is told, lines of attributes and of the lock state too. Nothing is written to the cartridge.
+pub fn run_list<D: Drive, K: Sink>(alloc: Global, all: bool, drive: D, out: &mut K) -> Ended<D>
     requires honest { IfSome (D.held drive) HasHonestNotes }
-    ensures { DoesList D.Drive drive result.drive (written K.Sink out.old out.new) result.status result.log }
+    ensures { DoesList all D.Drive drive result.drive (written K.Sink out.old out.new) result.status result.log }
 {
     let mut drive = drive;
     match find_tree(alloc, &mut drive) {
         Ok(found) => {
-            let status = write_found(alloc, &found, out);
+            let status = write_found(alloc, all, &found, out);
             Ended {
                 status: status.number(),
                 drive,
@@ -65,7 +65,7 @@ pub fn run_list<D: Drive, K: Sink>(alloc: Global, drive: D, out: &mut K) -> Ende
 fn find_tree<D: Drive>(alloc: Global, drive: &mut D) -> Result<FoundTree, MountErr>
     requires honest { IfSome (D.held drive.old) HasHonestNotes }
     ensures found { IfOk result (λ f. (c : Cartridge) → D.held drive.old ≡ Some c
-        → IsListingOf c (listing_of (tape_of c) f)) }
+        → (all : Bool) → IsListingOf c (listing_of all (tape_of c) f)) }
     ensures refused { IfErr result (λ e. (c : Cartridge) → D.held drive.old ≡ Some c → Blames e c) }
     ensures counts { HasCounts (D.faults drive.old) (D.faults drive.new) result }
     ensures looks { Looks D.Drive
@@ -106,11 +106,11 @@ fn spot_of(mounted: &Mounted) -> Spot
 }
 
 /// Writes the listing of a tree, and answers the status with which the run ends.
-pub fn write_found<K: Sink>(alloc: Global, found: &FoundTree, out: &mut K) -> Status
+pub fn write_found<K: Sink>(alloc: Global, all: bool, found: &FoundTree, out: &mut K) -> Status
     ensures { (tape : Tape)
-        → IsListingTold (listing_of tape found.now) (written K.Sink out.old out.new) (status_number result) }
+        → IsListingTold (listing_of all tape found.now) (written K.Sink out.old out.new) (status_number result) }
 {
-    match write_tree(alloc, &found.tree, found.generation, found.spot, out) {
+    match write_tree(alloc, all, &found.tree, found.generation, found.spot, out) {
         Ok(()) => Status::Done,
         Err(ListErr::Sink) => Status::Sink,
         Err(ListErr::NoMemory) => match out.write(b"memory\n") {

@@ -1,9 +1,10 @@
 //! The words behind a command's name and its folder, by clap.
 
-ghost use Rattle.std.specs.Prelude.{◌≡◌, true, false, map, IfOk, string_bytes};
+ghost use Rattle.std.specs.Prelude.{◌≡◌, true, false, map, option_map, IfOk, string_bytes};
 ghost use Rattle.clap.specs.Words.{app_of, is_simple_and_free, rule_of};
-ghost use Rattle.commands.specs.CommandLine.Forms.{make_app};
-ghost use Rattle.commands.specs.CommandLine.Options.{IsFoundIn, bare, option, positional, with_moment};
+ghost use Rattle.commands.specs.CommandLine.Forms.{list_app, make_app};
+ghost use Rattle.commands.specs.CommandLine.Options.{IsFoundIn, bare, flag, is_given, option, positional};
+ghost use Rattle.commands.specs.CommandLine.Options.{with_moment};
 ghost use Rattle.commands.specs.CommandLine.Views.{view_app};
 ghost use Rattle.commands.specs.CommandLine.Volumes.{format_app, with_policy, with_sizes, with_volume};
 
@@ -72,13 +73,21 @@ pub fn format_command<'a>(alloc: Global) -> Result<clap::Command<'a>, AllocError
     command.arg(option(alloc, "at"))
 }
 
-/// The command `view`: a word, and the option `--read`.
+/// The command `list`: the option `--all`.
+pub fn list_command<'a>(alloc: Global) -> Result<clap::Command<'a>, AllocError>
+    ensures { IfOk result (λ c. app_of c ≡ list_app) }
+{
+    bare_command(alloc, "list").arg(flag(alloc, "all"))
+}
+
+/// The command `view`: a word, and the options `--read` and `--all`.
 pub fn view_command<'a>(alloc: Global) -> Result<clap::Command<'a>, AllocError>
     ensures { IfOk result (λ c. app_of c ≡ view_app) }
 {
     bare_command(alloc, "view")
         .arg(positional(alloc, "generation"))?
-        .arg(option(alloc, "read"))
+        .arg(option(alloc, "read"))?
+        .arg(flag(alloc, "all"))
 }
 
 /// The command `make`: a word, and the option `--at`.
@@ -128,6 +137,14 @@ fn option<'a>(alloc: Global, name: &'a str) -> Arg<'a>
     Arg::new(alloc, name).long(name).action(ArgAction::Set)
 }
 
+/// An option without a value.
+fn flag<'a>(alloc: Global, name: &'a str) -> Arg<'a>
+    ensures rule { rule_of result ≡ flag name.now }
+    ensures global { result.global ≡ false }
+{
+    Arg::new(alloc, name).long(name).action(ArgAction::SetTrue)
+}
+
 /// A word that has to stand.
 fn positional<'a>(alloc: Global, name: &'a str) -> Arg<'a>
     ensures rule { rule_of result ≡ positional name.now }
@@ -153,5 +170,15 @@ pub fn find_in<'a>(
                 Err(WordsErr::Form)
             }
         }
+    }
+}
+
+/// Whether the words have an option without a value, by the text that stands for it.
+pub fn is_given(text: Option<&str>) -> bool
+    ensures { result ≡ is_given (option_map (λ t. t.now) text.entry) }
+{
+    match text {
+        Some(word) => word == "true",
+        None => false,
     }
 }

@@ -1,11 +1,12 @@
 //! Laws of the forms of words.
 
-ghost use Rattle.std.specs.Prelude.{◌≡◌, ℕ, List, [], ◌∷◌, ◌++◌, codes, None, Some, map, String, string_bytes};
+ghost use Rattle.std.specs.Prelude.{◌≡◌, ℕ, true, false, List, [], ◌∷◌, ◌++◌, codes, None, Some, map, String};
+ghost use Rattle.std.specs.Prelude.{string_bytes};
 ghost use Rattle.std.specs.Global.{Global};
 ghost use Rattle.tape_types.specs.Times.{time_text};
 ghost use Rattle.tape_types.specs.declared.moments.Moment.{Moment};
 ghost use Rattle.tape_edge.specs.Clocks.{IsSince1970};
-ghost use Rattle.commands.specs.CommandLine.Forms.{IsGenerations, IsLabel, IsList, IsMakeWords, IsPlainWords};
+ghost use Rattle.commands.specs.CommandLine.Forms.{IsGenerations, IsLabel, IsListWords, IsMakeWords, IsPlainWords};
 ghost use Rattle.commands.specs.CommandLine.Forms.{IsServeWords, count_told};
 
 /// The plain forms of the commands are forms, with either spelling of an option and in no other number, and no other
@@ -20,7 +21,9 @@ pub fn words_are_forms()
     ensures label { (words : List (String Global)) (folder : List ℕ)
         → map string_bytes words ≡ codes "label" ∷ folder ∷ [] → IsLabel words }
     ensures list { (words : List (String Global)) (folder : List ℕ)
-        → map string_bytes words ≡ codes "list" ∷ folder ∷ [] → IsList words }
+        → map string_bytes words ≡ codes "list" ∷ folder ∷ [] → IsListWords words false }
+    ensures list_all { (words : List (String Global)) (folder : List ℕ)
+        → map string_bytes words ≡ codes "list" ∷ folder ∷ codes "--all" ∷ [] → IsListWords words true }
     ensures generations { (words : List (String Global)) (folder : List ℕ)
         → map string_bytes words ≡ codes "generations" ∷ folder ∷ [] → IsGenerations words }
     ensures serve { (words : List (String Global)) (folder : List ℕ)

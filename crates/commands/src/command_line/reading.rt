@@ -1,10 +1,10 @@
 ghost use Rattle.std.specs.Prelude.{◌≡◌, codes, map, option_map, string_bytes};
-ghost use Rattle.commands.specs.CommandLine.Forms.{IsMakeRead, IsMomentTaken, IsReadAs, IsServeRead, IsSpelledBy};
-ghost use Rattle.commands.specs.CommandLine.Forms.{IsTakenAs, IsViewTaken, IsVolumeAsked, count_told};
+ghost use Rattle.commands.specs.CommandLine.Forms.{IsListRead, IsMakeRead, IsMomentTaken, IsReadAs, IsServeRead};
+ghost use Rattle.commands.specs.CommandLine.Forms.{IsSpelledBy, IsTakenAs, IsViewTaken, IsVolumeAsked, count_told};
 ghost use Rattle.commands.specs.CommandLine.Options.{bare};
 
 use crate::command_line::forms::{
-    WordsErr, bare_command, command_with_moment, find_in, make_command,
+    WordsErr, bare_command, command_with_moment, find_in, is_given, list_command, make_command,
 };
 use crate::command_line::views::{ViewWords, read_view};
 use crate::command_line::volumes::{FormatWords, read_at, read_number, read_volume};
@@ -19,8 +19,9 @@ pub enum Command {
     Plain { at: Option<Moment> },
     /// `label`, which reads the labels of the cartridge.
     Label,
-    /// `list`, which lists the tree for which the cartridge stands.
-    List,
+    /// `list`, which lists the tree for which the cartridge stands; where all is told attributes, read-only nodes and the
+    /// lock state too.
+    List { all: bool },
     /// `generations`, which tells the generations that the data partition of the cartridge still has.
     Generations,
     /// `view`, which lists the tree of a generation, or reads a file of it.
@@ -56,7 +57,7 @@ pub fn read_words(alloc: Global, words: &[String]) -> Result<Command, WordsErr>
         return read_bare(alloc, "label", &words[2..], Command::Label);
     }
     if name == "list" {
-        return read_bare(alloc, "list", &words[2..], Command::List);
+        return read_list(alloc, &words[2..]);
     }
     if name == "format" {
         return read_format(alloc, &words[2..]);
@@ -92,6 +93,21 @@ fn read_serve(alloc: Global, words: &[String]) -> Result<Command, WordsErr>
 {
     match read_option(alloc, "serve", words) {
         Ok(at) => Ok(Command::Serve { at }),
+        Err(error) => Err(error),
+    }
+}
+
+/// What the words of `list` ask for, behind its folder.
+fn read_list(alloc: Global, words: &[String]) -> Result<Command, WordsErr>
+    ensures { IsListRead (map string_bytes words.now) result }
+{
+    let Ok(command) = list_command(alloc) else {
+        return Err(WordsErr::NoMemory);
+    };
+    match find_in(command, words) {
+        Ok(found) => Ok(Command::List {
+            all: is_given(found.get_str("all")),
+        }),
         Err(error) => Err(error),
     }
 }

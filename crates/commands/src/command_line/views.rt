@@ -2,9 +2,9 @@
 
 ghost use Rattle.std.specs.Prelude.{◌≡◌, map, option_map, string_bytes};
 ghost use Rattle.commands.specs.CommandLine.Options.{IsReadTo};
-ghost use Rattle.commands.specs.CommandLine.Views.{IsViewRead, generation_told, path_told};
+ghost use Rattle.commands.specs.CommandLine.Views.{IsViewRead, asked_of, generation_told, path_told};
 
-use crate::command_line::forms::{WordsErr, find_in, view_command};
+use crate::command_line::forms::{WordsErr, find_in, is_given, view_command};
 use crate::command_line::paths::read_path;
 use crate::command_line::volumes::read_number;
 use std::alloc::Global;
@@ -17,6 +17,8 @@ pub struct ViewWords {
     pub generation: u64,
     /// The path of the file that is read, where one is.
     pub path: Option<List<Text>>,
+    /// Whether all is told of a tree that is listed.
+    pub all: bool,
 }
 
 /// What the words of `view` ask for, behind its folder.
@@ -33,10 +35,25 @@ pub fn read_view(alloc: Global, words: &[String]) -> Result<ViewWords, WordsErr>
     let Some(generation) = read_generation(found.get_str("generation")) else {
         return Err(WordsErr::Form);
     };
+    let all = is_given(found.get_str("all"));
     match read_given(alloc, found.get_str("read")) {
-        Ok(path) => Ok(ViewWords { generation, path }),
+        Ok(path) => asked_of(generation, path, all),
         Err(error) => Err(error),
     }
+}
+
+/// What is asked for, where not both a file and all of a tree are.
+fn asked_of(generation: u64, path: Option<List<Text>>, all: bool) -> Result<ViewWords, WordsErr>
+    ensures { result ≡ asked_of generation path all }
+{
+    if all && path.is_some() {
+        return Err(WordsErr::Form);
+    }
+    Ok(ViewWords {
+        generation,
+        path,
+        all,
+    })
 }
 
 /// A number of 1 to 2^62.

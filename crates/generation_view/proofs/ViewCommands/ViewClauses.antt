@@ -1,5 +1,5 @@
 -- What `generations` and `view` promise, from what they come to and what is told of that.
-use Rattle.std.proofs.Common.{◌≡◌, ◌∙◌, ◌⊎◌, ℕ, ◌+◌, ◌*◌, ◌≤◌, List, [], ◌∷◌, ◌++◌, length, Option, Some, None, Ok, Err, codes, refl, sym, ap, subst, inl, inr, arith}
+use Rattle.std.proofs.Common.{◌≡◌, ◌∙◌, ◌⊎◌, ℕ, ◌+◌, ◌*◌, ◌≤◌, Bool, List, [], ◌∷◌, ◌++◌, length, Option, Some, None, Ok, Err, codes, refl, sym, ap, subst, inl, inr, arith}
 use Rattle.std.specs.Prelude.{IfSome}
 use Rattle.std.specs.Io.KnownBytes.{Appends}
 use Rattle.tape_types.specs.Counts.{IsRise, Rose}
@@ -19,7 +19,6 @@ use Rattle.plain_tree.specs.declared.calls.Call.TheVariants.{Read}
 use Rattle.session_script.specs.declared.logs.Log.{Log}
 use Rattle.cartridge_meaning.specs.Meaning.{Found}
 use Rattle.cartridge_meaning.specs.declared.errors.MountErr.TheVariants as mounts
-use Rattle.tree_listing.specs.Listing.{first_lines}
 use Rattle.commands.specs.declared.command_line.views.ViewWords.{ViewWords}
 use Rattle.generation_view.specs.Chain.{GenTree, IsChain}
 use Rattle.generation_view.specs.Reads.{IsReadBy, blocks_read}
@@ -37,7 +36,7 @@ use Rattle.commands.specs.BasicCommands.Outcomes.{IsListingTold, IsTold}
 use Rattle.commands.specs.BasicCommands.Runs.{IsOneOf, Looked, Written, looked}
 use Rattle.commands.proofs.BasicCommands.MountClauses.{among_all, among_refused}
 use Rattle.commands.proofs.BasicCommands.Told.{by_six, by_status, by_text, if_some, of_some}
-use Rattle.generation_view.specs.ViewCommands.Outcomes.{AreBlocksAt, AreBlocksFor, ChainEnd, IsAnswerOf, IsChainEnd, IsReadTold, IsReplyTold, IsSeenOf, IsSeenTold, IsViewEnd, ViewEnd, all_told, answered, chain_status, chain_text, end_status, end_text, seen, seen_of, seen_part, unread, unseen, untold}
+use Rattle.generation_view.specs.ViewCommands.Outcomes.{AreBlocksAt, AreBlocksFor, ChainEnd, IsAnswerOf, IsChainEnd, IsReadTold, IsReplyTold, IsSeenFor, IsSeenOf, IsSeenTold, IsViewEnd, ViewEnd, all_told, answered, chain_status, chain_text, end_status, end_text, seen, seen_of, seen_part, unread, unseen, untold}
 use Rattle.generation_view.specs.ViewCommands.Promises.{AreGenerationsPrinted, DoesGenerations, DoesView, HasNoTree, IsFaultPrinted, IsPartSeen, IsRefusalPrinted, IsViewPrinted}
 use Rattle.generation_view.specs.ViewCommands.Texts.{answer_line, generations_text, view_status, view_text}
 use Rattle.generation_view.proofs.ViewCommands.Ends.{chain_done, drive_told, fault_told, memory_told, view_done, view_isnt, view_known}
@@ -171,7 +170,7 @@ module _ (asked : ViewWords) (drive : Looked) (sink : Written) where
 view_lacks : (asked : ViewWords) (drive : Looked) (end : ViewEnd) (c : Cartridge) → IsViewEnd asked drive end → drive.held ≡ Some c → HasNoTree asked.generation c
     → IsOneOf (end_status end) (3 ∷ 4 ∷ 6 ∷ 7 ∷ [])
 view_lacks asked drive (seen l) c is held none =
-    let s = of_some drive.held (λ c. IsSeenOf asked.generation c l) c held is.1 in absurd (none s.found l.tree s.gen)
+    let s = of_some drive.held (λ c. IsSeenOf asked.generation c l) c held is.1.known in absurd (none s.found l.tree s.gen)
 view_lacks asked drive (seen_part l count) c is held none = inr (inr (inr (inl refl)))
 view_lacks asked drive (answered told) c is held none =
     let s = of_some drive.held (λ c. IsAnswerOf asked.generation is.0 c told) c held is.2 in absurd (none s.found s.tree s.gen)
@@ -232,17 +231,21 @@ no_blocks_for : (asked : ViewWords) (held : Option Cartridge) → AreBlocksFor a
 no_blocks_for asked held = record { without = λ none. refl; those = λ path is. inl refl; few = omega arith }
 
 -- what a view shows of a cartridge
-seen_so : (generation : ℕ) (c : Cartridge) (view : Opened) → view.generation ≡ generation → IsViewOf generation c view → IsSeenOf generation c (seen_of (tape_of c) view)
-seen_so generation c view is v = record { found = v.found; gen = v.gen; k = v.k; older = v.older; stands = v.stands; spot_is = v.spot_is; generation_is = is }
+seen_so : (generation : ℕ) (c : Cartridge) (view : Opened) → view.generation ≡ generation → IsViewOf generation c view → (all : Bool) → IsSeenOf generation c (seen_of all (tape_of c) view)
+seen_so generation c view is v all = record { found = v.found; gen = v.gen; k = v.k; older = v.older; stands = v.stands; spot_is = v.spot_is; generation_is = is }
 
 module _ {D : Type 0} (asked : ViewWords) (drive : Ghosts D) (old mid : D) (view : Opened) (generation_is : view.generation ≡ asked.generation)
     (found : (c : Cartridge) → drive.held old ≡ Some c → IsViewOf asked.generation c view)
     (looks : Looks drive ((26 + 2 * (drive.limits old).cap_ip + 5 * (drive.limits old).cap_dp) * drive.MOST) old mid) where
   -- a listing of a view is told, of what the drive told where it did
-  tape_told : (held : Option Cartridge) (sink : Written) (status : ℕ) → ((c : Cartridge) → held ≡ Some c → IsViewOf asked.generation c view) → IsSeenTold view sink status
-      → (l : Listing) × IfSome held (λ c. IsSeenOf asked.generation c l) × IsListingTold l sink status
-  tape_told None sink status is told = (seen_of whole view, tt, told whole)
-  tape_told (Some c) sink status is told = (seen_of (tape_of c) view, seen_so asked.generation c view generation_is (is c refl), told (tape_of c))
+  tape_told : (held : Option Cartridge) (sink : Written) (status : ℕ) → ((c : Cartridge) → held ≡ Some c → IsViewOf asked.generation c view) → IsSeenTold asked.all view sink status
+      → (l : Listing) × IsSeenFor asked held l × IsListingTold l sink status
+  tape_told None sink status is told = (seen_of asked.all whole view, record { told = refl; known = tt }, told whole)
+  tape_told (Some c) sink status is told = (
+    seen_of asked.all (tape_of c) view,
+    record { told = refl; known = seen_so asked.generation c view generation_is (is c refl) asked.all },
+    told (tape_of c),
+  )
 
   no_blocks : Looks drive ((26 + 2 * (drive.limits old).cap_ip + 5 * (drive.limits old).cap_dp + 2 * 0) * drive.MOST) old mid
   no_blocks = subst (λ (n : ℕ). Looks drive (n * drive.MOST) old mid) (more (26 + 2 * (drive.limits old).cap_ip + 5 * (drive.limits old).cap_dp)) looks
@@ -251,15 +254,15 @@ module _ {D : Type 0} (asked : ViewWords) (drive : Ghosts D) (old mid : D) (view
       more n = omega arith
 
   -- a listing of a generation that was told is what `view` promises
-  pub view_listed : (new : D) (sink : Written) (status : ℕ) (log : Option Log) → new ≡ mid → log ≡ None → asked.path ≡ None → IsSeenTold view sink status
+  pub view_listed : (new : D) (sink : Written) (status : ℕ) (log : Option Log) → new ≡ mid → log ≡ None → asked.path ≡ None → IsSeenTold asked.all view sink status
       → DoesView asked drive old new sink status log
   view_listed new sink status log same none path told = subst (λ d. DoesView asked drive old d sink status log) (sym same) (by (tape_told (drive.held old) sink status found told))
     where
-      by_end : (l : Listing) → IfSome (drive.held old) (λ c. IsSeenOf asked.generation c l) → IsListingTold l sink status → DoesView asked drive old mid sink status log
+      by_end : (l : Listing) → IsSeenFor asked (drive.held old) l → IsListingTold l sink status → DoesView asked drive old mid sink status log
       by_end l is (inl all) = view_does asked drive old mid sink status log (seen l) (path, is) 0 (no_blocks_for asked (drive.held old), no_blocks) none all
       by_end l is (inr part) = view_does asked drive old mid sink status log (seen_part l part.0) (path, is) 0 (no_blocks_for asked (drive.held old), no_blocks) none part.1
 
-      by : (l : Listing) × IfSome (drive.held old) (λ c. IsSeenOf asked.generation c l) × IsListingTold l sink status → DoesView asked drive old mid sink status log
+      by : (l : Listing) × IsSeenFor asked (drive.held old) l × IsListingTold l sink status → DoesView asked drive old mid sink status log
       by all = by_end all.0 all.1 all.2
 
   joined : (m n most : ℕ) → m * most + 2 * n * most ≡ (m + 2 * n) * most

@@ -1,5 +1,5 @@
 -- What the commands that tell of generations come to: when they come to that, and what is told then.
-use Rattle.std.specs.Prelude.{ℕ, ◌≡◌, ◌⊎◌, ◌≤◌, ◌*◌, List, ◌∷◌, ◌++◌, length, codes, Option, Some, None, IfSome}
+use Rattle.std.specs.Prelude.{ℕ, Bool, ◌≡◌, ◌⊎◌, ◌≤◌, ◌*◌, List, ◌∷◌, length, codes, Option, Some, None, IfSome}
 use Rattle.tape_types.specs.Counts.{IsRise}
 use Rattle.tape_types.specs.declared.cartridges.Cartridge.{Cartridge}
 use Rattle.tape_types.specs.declared.cartridges.Twin.{Twin}
@@ -17,7 +17,6 @@ use Rattle.content_laws.specs.Readings.{Construct, first_of}
 use Rattle.cartridge_meaning.specs.Meaning.{Found}
 use Rattle.cartridge_meaning.specs.Pointers.{indexes_of}
 use Rattle.cartridge_meaning.specs.declared.errors.MountErr.TheVariants as mounts
-use Rattle.tree_listing.specs.Listing.{first_lines}
 use Rattle.commands.specs.declared.command_line.views.ViewWords.{ViewWords}
 use Rattle.generation_view.specs.Chain.{GenTree, behind}
 use Rattle.generation_view.specs.Reads.{blocks_read}
@@ -26,7 +25,7 @@ use Rattle.generation_view.specs.Views.{Opened, RefusesView}
 use Rattle.generation_view.specs.declared.errors.ViewErr.{ViewErr}
 use Rattle.generation_view.specs.declared.telling.Generation.{Generation}
 use Rattle.commands.specs.BasicCommands.Labels.{mount_text}
-use Rattle.commands.specs.BasicCommands.Listings.{Listing, text_of_listing}
+use Rattle.commands.specs.BasicCommands.Listings.{Listing, part_of_listing, text_of_listing}
 use Rattle.commands.specs.BasicCommands.Outcomes.{IsListingTold, IsTold}
 use Rattle.commands.specs.BasicCommands.Runs.{Looked, Written}
 use Rattle.generation_view.specs.ViewCommands.Texts.{answer_line, generations_text, view_status, view_text}
@@ -62,6 +61,11 @@ pub record IsSeenOf (generation : ℕ) (c : Cartridge) (l : Listing) : Type 0 wh
   pub spot_is : l.spot ≡ record { letter = found.labels.ip.dpart; block = first_of k }
   pub generation_is : l.generation ≡ generation
 
+-- as much is told of a generation's tree as was asked for, and where the drive told a cartridge it is one of that
+pub record IsSeenFor (asked : ViewWords) (held : Option Cartridge) (l : Listing) : Type 0 where
+  pub told : l.all ≡ asked.all
+  pub known : IfSome held (λ c. IsSeenOf asked.generation c l)
+
 -- so a read of the first mebibyte of the file at a path is answered of a generation's tree
 pub record IsAnswerOf (generation : ℕ) (path : Path) (c : Cartridge) (told : Answer) : Type 0 where
   pub found : Found c
@@ -87,16 +91,15 @@ end_status (unseen error) = view_status error
 
 abbrev pub end_text : ViewEnd → List ℕ
 end_text (seen l) = text_of_listing l
-end_text (seen_part l count) = first_lines count l.tree ++ codes "memory\n"
+end_text (seen_part l count) = part_of_listing count l
 end_text (answered told) = answer_line told
 end_text (unread counts) = mount_text (mounts.Drive counts)
 end_text (unseen error) = view_text error
 
 -- when `view` ends so
 abbrev pub IsViewEnd : ViewWords → Looked → ViewEnd → Type 0
-IsViewEnd asked drive (seen l) = (asked.path ≡ None) × IfSome drive.held (λ c. IsSeenOf asked.generation c l)
-IsViewEnd asked drive (seen_part l count) =
-    (asked.path ≡ None) × IfSome drive.held (λ c. IsSeenOf asked.generation c l)
+IsViewEnd asked drive (seen l) = (asked.path ≡ None) × IsSeenFor asked drive.held l
+IsViewEnd asked drive (seen_part l count) = (asked.path ≡ None) × IsSeenFor asked drive.held l
 IsViewEnd asked drive (answered told) =
     (path : Path) × (asked.path ≡ Some path) × IfSome drive.held (λ c. IsAnswerOf asked.generation path c told)
 IsViewEnd asked drive (unread counts) = IsRise drive.before drive.now counts.before counts.after
@@ -106,11 +109,12 @@ IsViewEnd asked drive (unseen error) =
 -- ---- what is told of a view
 
 -- the listing of a view, given what stands on tape
-abbrev pub seen_of : Tape → Opened → Listing
-seen_of tape view = record { tree = plain_of tape view.tree; generation = view.generation; spot = view.spot }
+abbrev pub seen_of : (all : Bool) → Tape → Opened → Listing
+seen_of all tape view =
+    record { tree = plain_of tape view.tree; generation = view.generation; spot = view.spot; all = all }
 
-abbrev pub IsSeenTold : Opened → Written → (status : ℕ) → Type 0
-IsSeenTold view sink status = (tape : Tape) → IsListingTold (seen_of tape view) sink status
+abbrev pub IsSeenTold : (all : Bool) → Opened → Written → (status : ℕ) → Type 0
+IsSeenTold all view sink status = (tape : Tape) → IsListingTold (seen_of all tape view) sink status
 
 -- the reply is told, or that the drive failed, or that memory was refused
 abbrev pub IsReplyTold : {D : Type 0} → Ghosts D → Opened → Path → (old new : D) → Written → (status : ℕ) → Type 0

@@ -1,6 +1,6 @@
 -- What is promised of the commands that tell of generations: their status, what they print, and what they leave of the
 -- drive.
-use Rattle.std.specs.Prelude.{ℕ, ◌≡◌, ◌⊎◌, ◌+◌, ◌*◌, List, [], ◌∷◌, ◌++◌, codes, Option, Some, None, IfSome}
+use Rattle.std.specs.Prelude.{ℕ, ◌≡◌, ◌⊎◌, ◌+◌, ◌*◌, List, [], ◌∷◌, codes, Option, Some, None, IfSome}
 use Rattle.std.specs.Io.KnownBytes.{Appends}
 use Rattle.tape_types.specs.Counts.{IsRise, Rose}
 use Rattle.tape_types.specs.declared.cartridges.Cartridge.{Cartridge}
@@ -14,7 +14,6 @@ use Rattle.index_model.specs.declared.indexes.Index.{Index}
 use Rattle.session_script.specs.declared.logs.Log.{Log}
 use Rattle.cartridge_meaning.specs.Meaning.{Found}
 use Rattle.cartridge_meaning.specs.declared.errors.MountErr.TheVariants as mounts
-use Rattle.tree_listing.specs.Listing.{first_lines}
 use Rattle.commands.specs.declared.command_line.views.ViewWords.{ViewWords}
 use Rattle.generation_view.specs.Chain.{GenTree, IsChain}
 use Rattle.generation_view.specs.Told.{RefusesChain, TellsChain}
@@ -23,11 +22,12 @@ use Rattle.generation_view.specs.declared.errors.ViewErr.{ViewErr}
 use Rattle.generation_view.specs.declared.telling.Generation.{Generation}
 use Rattle.commands.specs.BasicCommands.Headline.{IsDriveFaultPrinted}
 use Rattle.commands.specs.BasicCommands.Labels.{mount_text}
-use Rattle.commands.specs.BasicCommands.Listings.{Listing, text_of_listing}
+use Rattle.commands.specs.BasicCommands.Listings.{Listing, part_of_listing, text_of_listing}
 use Rattle.commands.specs.BasicCommands.Outcomes.{IsTold}
 use Rattle.commands.specs.BasicCommands.Runs.{IsOneOf, Written, looked}
-use Rattle.generation_view.specs.ViewCommands.Outcomes.{AreBlocksFor, ChainEnd, IsAnswerOf, IsChainEnd, IsSeenOf, IsViewEnd, ViewEnd}
-use Rattle.generation_view.specs.ViewCommands.Outcomes.{chain_status, chain_text, end_status, end_text}
+use Rattle.generation_view.specs.ViewCommands.Outcomes.{AreBlocksFor, ChainEnd, IsAnswerOf, IsChainEnd, IsSeenFor}
+use Rattle.generation_view.specs.ViewCommands.Outcomes.{IsViewEnd, ViewEnd, chain_status, chain_text, end_status}
+use Rattle.generation_view.specs.ViewCommands.Outcomes.{end_text}
 use Rattle.generation_view.specs.ViewCommands.Texts.{answer_line, generations_text, view_status, view_text}
 
 -- the generations were printed, and where the drive told a cartridge they are its chain
@@ -67,8 +67,7 @@ pub record DoesGenerations {D : Type 0} (drive : Ghosts D) (old new : D) (sink :
 -- told a cartridge it is of that
 abbrev pub IsViewPrinted : ViewWords → Option Cartridge → (old new : Option (List ℕ)) → Type 0
 IsViewPrinted asked held old new =
-    ((asked.path ≡ None) × (l : Listing) × IfSome held (λ c. IsSeenOf asked.generation c l)
-    × Appends old new (text_of_listing l))
+    ((asked.path ≡ None) × (l : Listing) × IsSeenFor asked held l × Appends old new (text_of_listing l))
     ⊎ ((path : Path) × (asked.path ≡ Some path) × (told : Answer)
     × IfSome held (λ c. IsAnswerOf asked.generation path c told) × Appends old new (answer_line told))
 
@@ -82,8 +81,7 @@ IsFaultPrinted before now old new =
 abbrev pub IsPartSeen : ViewWords → Option Cartridge → (old new : Option (List ℕ)) → Type 0
 IsPartSeen asked held old new =
     Appends old new (codes "memory\n")
-    ⊎ ((l : Listing) × IfSome held (λ c. IsSeenOf asked.generation c l)
-    × (count : ℕ) × Appends old new (first_lines count l.tree ++ codes "memory\n"))
+    ⊎ ((l : Listing) × IsSeenFor asked held l × (count : ℕ) × Appends old new (part_of_listing count l))
 
 -- no tree is that of the generation
 abbrev pub HasNoTree : ℕ → Cartridge → Type 0

@@ -21,8 +21,8 @@ use tape_types::{List, Text};
 /// How many bytes of a file are read at most.
 const MOST: u64 = 1_048_576;
 
-/// The command `view`: writes the tree of a generation as `list` writes the newest one, or, where a path is asked for,
-/// the reply to a read of the file there. Nothing is written to the cartridge.
+/// The command `view`: writes the tree of a generation as `list` writes the newest one, with as much as is asked for,
+/// or, where a path is asked for, the reply to a read of the file there. Nothing is written to the cartridge.
 pub fn run_view<D: Drive, K: Sink>(
     alloc: Global,
     asked: ViewWords,
@@ -32,13 +32,17 @@ pub fn run_view<D: Drive, K: Sink>(
     ensures { DoesView asked D.Drive drive result.drive (written K.Sink out.old out.new) result.status result.log }
 {
     let mut drive = drive;
-    let ViewWords { generation, path } = asked;
+    let ViewWords {
+        generation,
+        path,
+        all,
+    } = asked;
     match open_view(alloc, &mut drive, generation) {
         Ok(view) => {
             // The tree is good.
             let _tree_is_good = view.tree().count();
             match path {
-                None => write_view(alloc, view, drive, out),
+                None => write_view(alloc, all, view, drive, out),
                 Some(path) => read_view(alloc, view, path, drive, out),
             }
         }
@@ -53,8 +57,14 @@ pub fn run_view<D: Drive, K: Sink>(
 }
 
 /// Writes the listing of a view.
-fn write_view<D: Drive, K: Sink>(alloc: Global, view: View<D>, drive: D, out: &mut K) -> Ended<D>
-    ensures told { IsSeenTold view (written K.Sink out.old out.new) result.status }
+fn write_view<D: Drive, K: Sink>(
+    alloc: Global,
+    all: bool,
+    view: View<D>,
+    drive: D,
+    out: &mut K,
+) -> Ended<D>
+    ensures told { IsSeenTold all view (written K.Sink out.old out.new) result.status }
     ensures drive { result.drive ≡ drive }
     ensures log { result.log ≡ None }
 {
@@ -65,7 +75,7 @@ fn write_view<D: Drive, K: Sink>(alloc: Global, view: View<D>, drive: D, out: &m
         generation,
         spot,
     };
-    let status = write_found(alloc, &found, out);
+    let status = write_found(alloc, all, &found, out);
     Ended {
         status: status.number(),
         drive,

@@ -13,7 +13,7 @@ returns-in-Ok-Label g c =
 
 pub returns-in-Ok-List : goal.returns-in-Ok-List
 returns-in-Ok-List g c =
-    list_asked _ _ _ _ _ g.D.Drive _ _ _ _ (asked_list _ _ _ c.as_slice.ensures.value c.in-Ok-List.field-0-is c.in-Ok-List.ensures)
+    list_asked _ _ _ _ _ g.D.Drive _ _ _ _ c.in-Ok-List.all (asked_list _ _ _ c.in-Ok-List.all c.as_slice.ensures.value c.in-Ok-List.field-0-is c.in-Ok-List.ensures)
     (record { left = refl; faults = refl }) c.run_list.ensures
 
 pub returns-in-Ok-Generations : goal.returns-in-Ok-Generations
@@ -84,7 +84,7 @@ returns g c =
 
 pub run_list-requires : goal.run_list-requires
 run_list-requires g c =
-    record { honest = c.requires.honest (inl (asked_list _ _ _ c.as_slice.ensures.value c.in-Ok-List.field-0-is c.in-Ok-List.ensures)) }
+    record { honest = c.requires.honest (inl (c.in-Ok-List.all, asked_list _ _ _ c.in-Ok-List.all c.as_slice.ensures.value c.in-Ok-List.field-0-is c.in-Ok-List.ensures)) }
 
 pub run_serve-requires-clause-honest : goal.run_serve-requires-clause-honest
 run_serve-requires-clause-honest g c κs within =

@@ -14,8 +14,10 @@ pub returns-in-Ok-write_listing-clause-done : goal.returns-in-Ok-write_listing-c
 returns-in-Ok-write_listing-clause-done g c tape =
     c.in-Ok-write_listing.ensures.done (plain_of tape c.args.tree.now)
     (subst (λ n. AreNodesOf n (plain_of tape c.args.tree.now)) (sym (c.as_slice.ensures ∙ c.in-Ok.ensures)) (nodes_are (97, 98) c.args.tree.now c.count-count.ensures.good tape))
+    (sym c.lock.ensures)
 
 pub returns-clause-cut_short : goal.returns-clause-cut_short
 returns-clause-cut_short g c tape =
     c.in-Err-write_listing.ensures.cut_short (plain_of tape c.args.tree.now)
     (subst (λ n. AreNodesOf n (plain_of tape c.args.tree.now)) (sym (c.as_slice.ensures ∙ c.in-Ok.ensures)) (nodes_are (97, 98) c.args.tree.now c.count-count.ensures.good tape))
+    (sym c.lock.ensures)

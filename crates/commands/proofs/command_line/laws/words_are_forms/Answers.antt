@@ -1,6 +1,7 @@
 use Rattle.std.proofs.Common.{[], codes, ◌∷◌}
 use Rattle.tape_types.specs.Times.{time_text}
 use Rattle.commands.proofs.CommandLine.LawLemmas.{apart_is_form, joined_is_form, none_is_form, takes_bare}
+use Rattle.commands.proofs.CommandLine.ListLemmas.{list_all, list_alone}
 use Rattle.commands.proofs.CommandLine.MakeLaws.{make_alone, make_apart, make_joined}
 use Rattle.commands.proofs.command_line.laws.words_are_forms.Goals as goal
 
@@ -17,7 +18,10 @@ pub returns-clause-label : goal.returns-clause-label
 returns-clause-label c = λ words folder is. (folder, [], is, takes_bare _)
 
 pub returns-clause-list : goal.returns-clause-list
-returns-clause-list c = λ words folder is. (folder, [], is, takes_bare _)
+returns-clause-list c = λ words folder is. (folder, [], is, list_alone)
+
+pub returns-clause-list_all : goal.returns-clause-list_all
+returns-clause-list_all c = λ words folder is. (folder, codes "--all" ∷ [], is, list_all)
 
 pub returns-clause-generations : goal.returns-clause-generations
 returns-clause-generations c = λ words folder is. (folder, [], is, takes_bare _)

@@ -19,7 +19,7 @@ pub returns-then-eq-3 : goal.returns-then-eq-3
 returns-then-eq-3 c =
     let name = sym c.as_str-name.ensures.value ∙ (bytes_eq-Decides c.as_str-name.result.now (codes "list")).0 (sym c.eq-3.ensures ∙ c.if-eq-3.true) in
     let found = behind_folder c.args.words.now _ _ (omega (arith, c.if-words-lt2.false)) c.index-words-0.is name in
-    list_spelled c.args.words.now found.0 _ _ found.1 c.read_bare-then-eq-3.ensures
+    list_spelled c.args.words.now found.0 _ _ found.1 c.read_list.ensures
 
 pub returns-then-eq-4 : goal.returns-then-eq-4
 returns-then-eq-4 c =

@@ -10,7 +10,7 @@ use Rattle.generation_view.proofs.view_commands.trees.write_view.Goals as goal
 pub returns-clause-told : goal.returns-clause-told
 returns-clause-told g c = λ tape.
     let sink = written g.K.Sink c.args.out.now c.write_found-status.new.out in
-    subst (λ (n : ℕ). IsListingTold (seen_of tape c.args.view) sink n) (sym c.number.ensures)
+    subst (λ (n : ℕ). IsListingTold (seen_of c.args.all tape c.args.view) sink n) (sym c.number.ensures)
     (subst (λ (l : Listing). IsListingTold l sink (status_number c.write_found-status.result))
-    (λ i. record { tree = plain_of tape (c.into_tree.ensures i); generation = c.generation-generation.ensures i; spot = c.spot-spot.ensures i })
+    (λ i. record { tree = plain_of tape (c.into_tree.ensures i); generation = c.generation-generation.ensures i; spot = c.spot-spot.ensures i; all = c.args.all })
     (c.write_found-status.ensures tape))
