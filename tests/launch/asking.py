@@ -32,11 +32,13 @@ view D 4611686018427387904 --read /|view D --read=/a%20b/%c3%a9 2|view D 2 --rea
 make D 1|make D --at={AT} 1024|make D -- 7|format D TAPE01 {UUID}|format D --block 4096 TAPE01 {UUID.upper()}
 format D TAPE01 {UUID} --name= --ip-size 0|format D TAPE01 {UUID} --name=-x --ip-size 1099511627776 --ip-names *.txt/a
 format D --at 9999-12-31T23:59:59.999999999Z TAPE01 -- {UUID}|format D TAPE01 {UUID} --name -|list D --human
-list D --json --
+list D --json --|list D --all|list D --all --json|list D --human --all --|view D 1 --all|view D --all 1 --
 generations D --json|format D TAPE01 {UUID} --yes --block=1048576|serve D --at 2024-02-29T00:00:00.000000000Z
 """
 BAD = f"""
 fly|list|list D E|list D --at {AT}|label D --human|list D --human --json|list D --json --json|list D -- --json
+list D --all --all|list D --all=1|list D --all x|list D -- --all|list D --al|list D --all --human --json
+view D 1 --all --read /a|view D 1 --read=/a --all|view D 1 --all --all|view D 1 --all=|generations D --all
 list D --json=|generations D --human|plain D|plain --at|plain --at {AT} --at {AT}|plain --at=|plain -a|plain --AT {AT}
 view D|view D 0
 view D x|view D 4611686018427387905|view D 1 2|view D 1 --read a|view D 1 --read //|view D 1 --read /a/|view D 1 --read
@@ -132,12 +134,14 @@ def words_at_terminal():
          ["--at can't be 'now': it is no time of the form 2024-01-02T03:04:05.000000000Z, of the years 1970 to 9999",
           "usage: ltfs_server serve DIR [--at TIME]"]),
         (["list", "--json", "d"], ["unexpected word 'd'; '--json' is taken as DIR there",
-                                   "usage: ltfs_server list DIR [--human | --json]"]),
+                                   "usage: ltfs_server list DIR [--all] [--human | --json]"]),
+        (["view", "d", "1", "--all", "--read", "/a"],
+         ["--all and --read can't stand together", "usage: ltfs_server view DIR G [--all | --read PATH]"]),
         (["make", "d", "2000"],
          ["N can't be '2000': N has to be 1 to 1,024", "usage: ltfs_server make DIR N [--at TIME]"]),
         (["view", "d", "1", "--read"],
          ["--read lacks its value; one that begins with a hyphen stands as --read=VALUE",
-          "usage: ltfs_server view DIR G [--read PATH]"]),
+          "usage: ltfs_server view DIR G [--all | --read PATH]"]),
     ):
         ran, came = told(words)
         found += compare(f"status of {words}", 1, ran.status) + compare(f"output of {words}", b"words\n", ran.out)
@@ -407,6 +411,11 @@ def json_and_human():
                     {"kind": "file", "uid": 3, "length": 5, "path": "/docs/read me.txt"},
                     {"kind": "link", "uid": 4, "path": "/latest", "target": "docs/read me.txt"}],
           "generation": 3, "partition": "b", "block": 9}),
+        (["list", folder, "--all"], 0,
+         {"nodes": [{"kind": "directory", "uid": 1, "path": "/"}, {"kind": "directory", "uid": 2, "path": "/docs"},
+                    {"kind": "file", "uid": 3, "length": 5, "path": "/docs/read me.txt"},
+                    {"kind": "link", "uid": 4, "path": "/latest", "target": "docs/read me.txt"}],
+          "lock": "unlocked", "generation": 3, "partition": "b", "block": 9}),
         (["generations", folder], 0,
          {"generations": [{"generation": 3, "block": 9, "time": "2020-01-28T19:39:57.245954278Z", "nodes": 4},
                           {"generation": 1, "block": 5, "time": "2020-01-28T19:39:57.245954278Z", "nodes": 1}],
@@ -444,6 +453,27 @@ def large_json():
     return found + compare("what is cut off", wanted, cut)
 
 
+def all_in_other_forms():
+    """What `list --all` prints of attributes, read-only nodes and the lock state, in both other forms."""
+    lines = (b"d 1 / readonly\nx 2048 / a%20b\nx 0 / %C3%A9\nf 2 1536 /f readonly\n"
+             b"l 3 /l  readonly\nx 7 /l k\nl 4 /m f\n")
+    ends = b"lock permlocked\ngeneration 1 b 5\n"
+    nodes = [{"kind": "directory", "uid": 1, "path": "/", "readonly": True,
+              "attributes": [{"key": "a b", "length": 2_048}, {"key": "é", "length": 0}]},
+             {"kind": "file", "uid": 2, "length": 1_536, "path": "/f", "readonly": True},
+             {"kind": "link", "uid": 3, "path": "/l", "target": "", "readonly": True,
+              "attributes": [{"key": "k", "length": 7}]},
+             {"kind": "link", "uid": 4, "path": "/m", "target": "f"}]
+    whole = {"nodes": nodes, "lock": "permlocked", "generation": 1, "partition": "b", "block": 5}
+    words, found = [sys.executable, "-B", TOP / "launch/filters.py"], []
+    for text, wanted in ((lines + ends, whole), (lines + b"memory\n", {"nodes": nodes, "error": "memory"}),
+                         (lines + ends[:16], {"nodes": nodes, "error": "cut off"})):
+        found += compare("document", wanted, json.loads(run([*words, "json", "list"], TOP, text).out))
+    wanted = (lines + ends).replace(b"x 2048", b"x 2.0KiB").replace(b"x 0", b"x 0B").replace(b"1536", b"1.5KiB")
+    return found + compare("lines for people", wanted.replace(b"x 7", b"x 7B"),
+                           run([*words, "human", "list"], TOP, lines + ends).out)
+
+
 def sizes_for_people():
     filters = importlib.import_module("filters")
     return [it for size, wanted in ((0, "0B"), (1_023, "1023B"), (1_024, "1.0KiB"), (1_048_575, "1.0MiB"),
@@ -464,7 +494,7 @@ def completions():
     found, files = [], [f"examples/archive{it}" for it in ("", ".log", ".script", ".words", ".xml")]
     for words, wanted in (
         (["ltfs_server", "l"], ["label", "list"]), (["ltfs_server", "help", "se"], ["serve"]),
-        (["ltfs_server", "list", "d", "--"], ["--human", "--json", "--help"]),
+        (["ltfs_server", "list", "d", "--"], ["--all", "--human", "--json", "--help"]),
         (["ltfs_server", "format", "d", "--ip"], ["--ip-size", "--ip-names"]),
         (["ltfs_server", "--ver"], ["--version"]), (["ltfs_server", "list", "exam"], ["examples"]),
         (["index_tool", "c"], ["check", "canon"]), (["index_tool", "check", "examples/arch"], files),
@@ -501,6 +531,7 @@ CASES = {
     "asks_nobody_else": asks_nobody_else,
     "json_and_human": json_and_human,
     "large_json": large_json,
+    "all_in_other_forms": all_in_other_forms,
     "sizes_for_people": sizes_for_people,
     "completions": completions,
     "man_pages": man_pages,

@@ -163,7 +163,7 @@ def replaced():
     run(["./ltfs_server", "serve", folder], ready(), b"1 mkdir /dir\n")
     ran = put(folder, "/dir", here / "short")
     found += compare("status of a put over a directory", 9, ran.status)
-    told = "ltfs_put: /dir can't be put: a directory stands there (0 1.0 no IsDir, read /dir)"
+    told = "ltfs_put: /dir can't be put: a directory stands there (0 1.0 no IsDir, write /dir)"
     return found + compare("its line", told, ran.lines()[-1])
 
 
@@ -190,7 +190,7 @@ def failures():
          "ltfs_put: /no/x can't be put: its directory isn't there (1 1.1 no NotFound, list /no)"),
         (put(folder, "/here/x", file), 9,
          "ltfs_put: /here/x can't be put: a part of its path is no directory (1 1.1 no NotDir, list /here)"),
-        (put(folder, "/", file), 9, f"ltfs_put: / can't be put: {is_dir} (0 1.0 no IsDir, read /)"),
+        (put(folder, "/", file), 9, f"ltfs_put: / can't be put: {is_dir} (0 1.0 no IsDir, write /)"),
         (put(folder, "/e\u0301", file), 9, "ltfs_put: /e\u0301 can't be put: its name isn't composed, which is"
          " Unicode's normal form C; '\u00e9' would do, and --normalize uses that"),
         (put(folder, "x", file), 2, f"ltfs_put: {no_path} x isn't"),

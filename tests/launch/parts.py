@@ -28,9 +28,11 @@ CALLS = {b"mkdir": 1, b"create": 1, b"write": 3, b"truncate": 2, b"read": 3, b"l
 class Tape:
     """A volume that answers as docs/FORMATS.md says. Which session comes next is by chance. With `room` it has place
     for so many writes, and is full then. `refused` has calls by their first two words, and how each is refused in turn.
+    Where it is locked all that changes anything is.
     """
 
-    def __init__(self, room=None, seed=1):
+    def __init__(self, room=None, seed=1, locked=False):
+        self.locked = locked
         self.nodes, self.room, self.chance = {b"/": None}, room, random.Random(seed)
         self.runs, self.beyond, self.folder, self.refused = 0, [], None, {}
 
@@ -78,6 +80,8 @@ class Tape:
                 self.beyond.append(f"{came} {of}")
 
     def answer(self, verb, path=b"", *words):
+        if self.locked and verb not in (b"read", b"list", b"sync"):
+            return b"no Locked"
         above = self.nodes.get(os.path.dirname(path), b"") if path else None
         if verb in (b"mkdir", b"create"):
             if path in self.nodes or above is not None:
@@ -99,12 +103,17 @@ class Tape:
             held[:] = held[:length] + bytes(max(0, length - len(held)))
         elif verb == b"write":
             return self.write(self.nodes[path], int(words[0]), words[1])
+        elif verb == b"list":
+            names = sorted(os.path.basename(it) for it in self.nodes if it != path and os.path.dirname(it) == path)
+            return b" ".join([b"names %d" % len(names), *(b"f:" + it for it in names)])
         else:
             piece = bytes(self.nodes[path][int(words[0]):int(words[0]) + int(words[1])])
             return b"bytes %d %s" % (len(piece), piece.hex().encode())
         return b"ok"
 
     def write(self, held, offset, word):
+        if word == b"hex:":
+            return b"ok"
         if self.room is not None and self.room <= 0:
             return b"full 9 8"
         self.room = None if self.room is None else self.room - 1
@@ -231,6 +240,10 @@ def refused():
         (b"remove /f", [b"no NotEmpty"],
          ["/f: a directory that isn't empty stands there (0 1.0 no NotEmpty, remove /f)"],
          {**nodes, b"/f": b"old"}),
+        (b"write /f", [b"no ReadOnly"],
+         ["/f: it, or the directory in which it stands, is read-only (0 1.0 no ReadOnly, write /f)"],
+         {**nodes, b"/f": b"old"}),
+        (b"write /f", [b"no NotFound"], [], nodes),
         (b"rename " + apart, [b"no Inside"], [], nodes),
         (b"rename " + apart, [b"no Inside"] * 2,
          [f"/f: it was refused (0 1.0 no Inside, rename {apart.decode()}); its bytes stand on the volume as"
@@ -246,6 +259,21 @@ def refused():
                          [status, said.splitlines()[1:]])
         found += compare(f"what stands where {verb} is refused", {b"/": None, **stands}, tape.nodes)
     return found
+
+
+def locked():
+    """On a locked volume nothing is begun behind the first refusal, and nothing has changed."""
+    top, found = folder_of({b"/d": None, b"/d/x": b"x", b"/f": b"new"}), []
+    tape = Tape(locked=True)
+    tape.nodes[b"/f"] = bytearray(b"old")
+    status, said = put_folder(tape, top)
+    wanted = "0 of 2 files were copied: the volume is locked (0 1.0 no Locked, "
+    found += compare("how it ends", [9, wanted], [status, said[:len(wanted)]])
+    found += compare("what stands", {b"/": None, b"/f": b"old"}, tape.nodes)
+    file = os.path.join(top, b"f")
+    status, said = copied(put.put_file, tape, options.read_words([], []), b"/f", os.fsdecode(file))
+    wanted = "/f can't be put: the volume is locked (0 1.0 no Locked, write /f)"
+    return found + compare("how a put of one file ends", [9, wanted], [status, said])
 
 
 def grows():
@@ -422,4 +450,4 @@ def alone(case):
 
 
 CASES = {f"parts/{it.__name__}": alone(it) for it in
-         (limits, ten_thousand, full, refused, grows, verified, tried_again, made_safe, cut_off, words)}
+         (limits, ten_thousand, full, refused, locked, grows, verified, tried_again, made_safe, cut_off, words)}

@@ -18,6 +18,9 @@ import tempfile
 TIME = "2024-01-02T03:04:05.000000000Z"
 UUID = "30a91a08-daae-48d1-ae75-69804e61d2ea"
 NAMES = ["a", "b", "c.txt", "d.txt", "%25", "x%20y", "\u00e9", "z" * 255]
+KEYS = ["k", "user.note", "%00", "\u00e9"]
+# Of so many nodes the attributes are asked for at the end.
+MOST_ASKED = 60
 
 
 def path(rng, depth=3):
@@ -26,8 +29,9 @@ def path(rng, depth=3):
 
 def call(rng):
     verb = rng.choices(
-        ["mkdir", "create", "write", "truncate", "read", "list", "stat", "rename", "remove", "sync"],
-        [6, 10, 22, 4, 16, 3, 4, 4, 4, 6],
+        ["mkdir", "create", "write", "truncate", "read", "list", "stat", "rename", "remove", "sync", "setx", "getx",
+         "dropx", "readonly", "lock", "unlock", "permlock"],
+        [60, 100, 220, 40, 160, 30, 40, 40, 40, 60, 80, 60, 20, 40, 5, 15, 1],
     )[0]
     if verb in ("mkdir", "create", "stat", "remove"):
         return f"{verb} {path(rng)}"
@@ -44,7 +48,13 @@ def call(rng):
         return f"read {path(rng)} {rng.choice([0, 1, 4095, 65530])} {rng.choice([0, 1, 10, 5000, 200000])}"
     if verb == "rename":
         return f"rename {path(rng)} {path(rng)}"
-    return "sync"
+    if verb == "setx":
+        return f"setx {path(rng)} {rng.choice(KEYS)} fill:{rng.randint(0, 255):02x}:{rng.choice([0, 1, 300, 9000])}"
+    if verb in ("getx", "dropx"):
+        return f"{verb} {path(rng)} {rng.choice(KEYS)}"
+    if verb == "readonly":
+        return f"readonly {rng.choice(['/', path(rng)])} {rng.choice(['true', 'false'])}"
+    return verb
 
 
 def run(program, words, script=""):
@@ -139,6 +149,10 @@ def judge_end(program, folder, whole, generation):
     reading = [f"1 read {name} 0 {min(int(size), 1048576)}" for _, _, size, name in files]
     reading += [f"1 stat {line.split(' ')[3 if line[0] == 'f' else 2]}" for line in listed[1:-1]]
     reading += [f"1 list {line.split(' ')[2]}" for line in listed[:-1] if line.startswith("d ")]
+    paths = [line.split(" ")[3 if line[0] == "f" else 2] for line in listed[:-1]]
+    reading += [f"1 getx {name} {key}" for name in paths[:MOST_ASKED] for key in KEYS]
+    # A write of no bytes is refused where a file is read-only, and else changes nothing.
+    reading += [f"1 write {name} 0 hex:" for _, _, _, name in files]
     text = "".join(line + "\n" for line in reading)
     status, served = run(program, ["serve", folder, "--at", TIME], text)
     behind, plain = run(program, ["plain", "--at", TIME], "".join(line + "\n" for line in whole) + text)

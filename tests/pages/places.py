@@ -12,7 +12,7 @@ TICKED = re.compile(r"`([\w./*-]+/[\w./*-]*)`")
 DEFINED = re.compile(r"((?:`\w+'?`(?:, | and | with )?)+) (?:in|of) `([\w/]+\.(?:antt|rt))`")
 ENDINGS = ("", ".antt", ".rt", ".rt.in")
 # words with a `/` that are paths of a script, hold for many, or are made by a build
-APART = re.compile(r"/|\.|.*/NAME\b|.*\b[A-Z]+/|proofs/forms/|specs/declared\b")
+APART = re.compile(r"/|\.|.*/NAME\b|.*\b[A-Z]+/|proofs/forms/|specs/declared\b|launch/built\b")
 OWN = ("src", "specs", "proofs", "must-fail")
 
 

@@ -30,9 +30,15 @@ def coded(value):
     return f"<value type='base64'>\n{chr(10).join(symbols[at:at + 8] for at in range(0, len(symbols), 8))}\n</value>"
 
 
-def index(here, back, generation, places):
+def facts(uid, readonly):
+    """The times of a node, and whether it is one of those that are read-only."""
+    return f"{TIMES}<readonly>{'true' if uid in readonly else 'false'}</readonly>"
+
+
+def index(here, back, generation, places, state=None, readonly=()):
     """An index at a place, which points back to another, with a file of five bytes at each of these places. The word
-    `of GENERATION` is in each value, and keys stand in no order."""
+    `of GENERATION` is in each value, and keys stand in no order. The volume has this lock state, and the nodes with
+    these UIDs are read-only."""
     word = f"of {generation}"
     pointer = f"<previousgenerationlocation>{spot(back)}</previousgenerationlocation>" if back else ""
     root = attributes(("<key>b</key>", text(f"{word} &#60;&amp;&#13;")),
@@ -43,13 +49,14 @@ def index(here, back, generation, places):
     link = attributes(("<key>security.selinux</key>", coded(b"link " + word.encode() + b"\0")))
     extents = "".join(f"<extent><fileoffset>{5 * k}</fileoffset>{spot(place)}<byteoffset>0</byteoffset>"
                       "<bytecount>5</bytecount></extent>" for k, place in enumerate(places))
-    facts = f"{TIMES}<readonly>false</readonly>"
+    locked = f"<volumelockstate>{state}</volumelockstate>" if state else ""
     return f"""<ltfsindex version="2.4.0"><creator>by hand</creator><volumeuuid>{UUID}</volumeuuid>\
-<generationnumber>{generation}</generationnumber><updatetime>{AT}</updatetime><location>{spot(here)}</location>{pointer}\
-<allowpolicyupdate>true</allowpolicyupdate><highestfileuid>4</highestfileuid><directory><fileuid>1</fileuid>\
-<name></name>{facts}{root}<contents><directory><fileuid>2</fileuid><name>docs</name>{facts}{docs}<contents><file>\
-<fileuid>3</fileuid><name>a</name><length>{5 * len(places)}</length>{facts}{file}<extentinfo>{extents}</extentinfo>\
-</file></contents></directory><file><fileuid>4</fileuid><name>to</name><length>6</length>{facts}{link}\
+<generationnumber>{generation}</generationnumber><updatetime>{AT}</updatetime><location>{spot(here)}</location>\
+{pointer}<allowpolicyupdate>true</allowpolicyupdate>{locked}<highestfileuid>4</highestfileuid><directory>\
+<fileuid>1</fileuid><name></name>{facts(1, readonly)}{root}<contents><directory><fileuid>2</fileuid>\
+<name>docs</name>{facts(2, readonly)}{docs}<contents><file><fileuid>3</fileuid><name>a</name>\
+<length>{5 * len(places)}</length>{facts(3, readonly)}{file}<extentinfo>{extents}</extentinfo></file></contents>\
+</directory><file><fileuid>4</fileuid><name>to</name><length>6</length>{facts(4, readonly)}{link}\
 <symlink>docs/a</symlink></file></contents></directory></ltfsindex>""".encode()
 
 

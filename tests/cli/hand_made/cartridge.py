@@ -25,9 +25,10 @@ def label(letters, nth, compression="false"):
 <compression>{compression}</compression></ltfslabel>""".encode()
 
 
-def write(ip, dp):
+def write(ip, dp, folder=TAPE):
     """Writes the cartridge with these items, of which each is the bytes of a block, or `mark`."""
-    images.write(TAPE, ip, dp)
+    os.makedirs(folder, exist_ok=True)
+    images.write(folder, ip, dp)
 
 
 def indexes(part):

@@ -7,7 +7,8 @@ usage: check_log.py SCRIPT LOG      say what is wrong first, with its line in th
 A log is lines of words, and lines that begin with `#`. What is told of the start comes first. Calls stand in the
 order of the history, acknowledgements and events in their own order; the three may be mixed.
 
-    volume block 4096 caps 1000 1000 ends 4 7 generation 1 last 5 ip_on yes      what is left out is as it stands here
+    volume block 4096 caps 1000 1000 ends 4 7 generation 1 last 5 ip_on yes lock absent
+                                                          what is left out is as it stands here
     policy SIZE PATTERN/PATTERN                           which files may go to the index partition
     node dir UID PATH TIME                                a node beside the root, its parent first
     node file UID PATH TIME LENGTH
@@ -25,9 +26,11 @@ import re
 import sys
 
 from trail import LAST_COUNT, ROOM, Head, Op, Wrong
-from volume import Extent, Node, Tree, bytes_of, index_len, matches, path_of, read_script
+from volume import Extent, Node, Tree, bytes_of, index_text, matches, path_of, read_script
 
 LAST_GENERATION = 2**62
+# A time as long as each: it stands for those that no line tells, so that an index is as long as it is.
+NO_TIME = "0000-00-00T00:00:00.000000000Z"
 EVENTS = {"wants", "queues", "syncs", "synced", "drains", "rests", "served", "worked"}
 OF_SUBMISSIONS = {"wants", "queues", "syncs"}
 OTHERS = {"volume", "policy", "node", "extent", "moment", "drive", "closed"}
@@ -88,7 +91,7 @@ class Space:
         self.policy = None
         for line in others["policy"]:
             self.policy = line.words[0], str(line.words[1]).split("/") if len(line.words) > 1 else []
-        self.tree = Tree(self.block, "")
+        self.tree = Tree(self.block, NO_TIME, given.get("lock", "absent"))
         for line in others["node"]:
             sort, uid, path, time, *length = line.words
             node = self.tree.nodes[path_of(path)] = Node(sort, uid, time)
@@ -116,8 +119,12 @@ class Space:
         return (max(end, self.tree.nodes[path].length) <= size
                 and (not patterns or any(matches(p, path[-1]) for p in patterns)))
 
+    def index(self, at=NO_TIME):
+        """The text of the next index on the data partition, of a moment."""
+        return index_text(self.tree, self.generation + 1, at, ("b", self.ends["dp"] + 1), self.last, self.policy)
+
     def index_blocks(self):
-        return self.blocks(index_len(self.tree, self.generation + 1, self.ends["dp"] + 1, self.last, self.policy, ""))
+        return self.blocks(len(self.index()))
 
     def asks(self, verb, *rest):
         """What a call that the tree doesn't refuse needs, and what there is."""
@@ -230,7 +237,7 @@ class Check:
             return None if self.kept.pop(call.who, None) and verb == "write" else "no fault is kept for this call"
         if verb == "write" and len(head.ops) > ROOM:
             return f"a write is placed while {len(head.ops)} ops stand"
-        refused = verb != "sync" and self.space.tree.refusal(verb, *rest)
+        refused = self.space.tree.refusal(verb, *rest)
         need, limit = (0, 0) if refused else self.space.asks(verb, *rest)
         if call.fate == "void":
             return None if need > limit and call.reply == f"full {need} {limit}" else f"{need} of {limit} is needed"

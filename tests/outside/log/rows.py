@@ -292,6 +292,81 @@ DAMAGED_LOG = (f"volume ends 4 8 last 6\nnode file 2 /a {T} 5\nextent /a 0 dp 4 
 
 DAMAGED_BROKEN = [("no Damaged", "bytes 5 6162630000"), ("bytes 3 616263", "no Damaged")]
 
+# ---- attributes, a read-only file and a lock; what the lock or the flag refuses changes nothing
+
+FACTS = """1 create /a
+1 setx /a k text:v
+1 sync
+2 readonly /a true
+2 setx /a k text:w
+1 lock
+2 write /a 0 text:x
+1 getx /a k
+1 sync
+1 unlock
+1 unlock
+1 getx /a l
+1 dropx /a k
+1 readonly /a true
+"""
+
+FACTS_LOG = (MOMENT + "drive 40 0 54 0\n" + calls(1, "ok", "ok", "synced") + calls(2, "ok", "no ReadOnly", place=3)
+             + calls(1, "ok", place=5, nth=3) + calls(2, "no Locked", place=6, nth=2)
+             + calls(1, "bytes 1 76", "synced", "ok", "ok", "no NoKey", place=7, nth=4)
+             + f"call 12 1.9 done {T} no ReadOnly\ncall 13 1.10 done {T} ok\n"
+             + each("queues", 7, 4) + "syncs 2\n" + each("worked", 7, 4) + "synced 2\nack 2 47\n"
+             + each("queues", 10, 4) + "syncs 8\n" + each("worked", 10, 4) + "synced 8\nack 8 54\nclosed 4 8 7\n")
+
+FACTS_BROKEN = [
+    (f"4 2.1 done {T} no ReadOnly", f"4 2.1 done {T} ok"),              # a read-only file gets a value
+    (f"4 2.1 done {T} no ReadOnly", f"4 2.1 done {T} no Locked"),
+    (f"{T} no Locked", f"{T} ok"),                                      # a locked volume is written to
+    (f"{T} no Locked", f"{T} no ReadOnly"),                             # the lock comes first
+    ("bytes 1 76", "bytes 1 77"),                                       # the value that was refused
+    ("bytes 1 76", "no Locked"),                                        # a lock refuses what only asks
+    ("no NoKey", "bytes 0"),
+    (f"12 1.9 done {T} no ReadOnly", f"12 1.9 done {T} ok"),
+    ("queues dp 12\nqueues dp 13\n", "queues dp 12\nqueues dp 13\nqueues dp 14\n"),
+    ("closed 4 8 7", "closed 3 8 7"),                                   # the unlock is a change
+]
+
+# ---- 3,000 bytes that are no text take 4,000 of the index, which has two blocks by that
+
+CODED = "1 setx / k fill:ff:3000\n1 sync\n"
+
+CODED_LOG = (calls(1, "ok", "synced") + each("queues", 7, 5) + "syncs 1\n" + each("worked", 7, 5)
+             + "synced 1\nack 1 49\nclosed 2 5 7\n")
+
+CODED_BROKEN = [("queues dp 11\n", ""), ("ack 1 49\n", ""), ("closed 2 5 7", "closed 2 4 7")]
+
+# ---- a value that stands, a flag that stands and an unlock without a lock leave the tree as it was
+
+SAME = "1 unlock\n1 readonly / false\n1 sync\n1 setx / k hex:\n1 sync\n1 setx / k hex:\n1 sync\n"
+
+SAME_LOG = (calls(1, "ok", "ok", "synced", "ok", "synced", "ok", "synced") + "syncs 2\nsynced 2\nack 2 40\n"
+            + each("queues", 7, 4) + "syncs 4\n" + each("worked", 7, 4) + "synced 4\nack 4 47\n"
+            + "syncs 6\nsynced 6\nack 6 47\nclosed 2 4 7\n")
+
+SAME_BROKEN = [("syncs 6\n", "queues dp 10\nsyncs 6\n"), ("closed 2 4 7", "closed 3 4 7"),
+               ("syncs 2\n", "queues dp 7\nsyncs 2\n")]
+
+# ---- a volume that is sealed
+
+SEALED = "1 mkdir /a\n1 sync\n1 unlock\n1 permlock\n1 getx / k\n1 list /\n"
+
+SEALED_LOG = ("volume lock permlocked\n"
+              + calls(1, "no Locked", "synced", "no Locked", "no Locked", "no NoKey", "names 0")
+              + "syncs 1\nsynced 1\nack 1 40\nclosed 1 0 0\n")
+
+SEALED_BROKEN = [
+    (f"call 0 1.0 done {T} no Locked", f"call 0 1.0 done {T} ok"),
+    (f"call 2 1.2 done {T} no Locked", f"call 2 1.2 done {T} ok"),
+    (f"call 3 1.3 done {T} no Locked", f"call 3 1.3 done {T} ok"),
+    ("no NoKey", "no Locked"),
+    ("closed 1 0 0", "closed 2 0 0"),
+    ("volume lock permlocked\n", "volume lock locked\n"),
+]
+
 ROWS = [
     ("read back", READ_BACK, READ_BACK_LOG, READ_BACK_BROKEN),
     ("read twice", READ_TWICE, READ_TWICE_LOG, READ_TWICE_BROKEN),
@@ -306,4 +381,8 @@ ROWS = [
     ("both ways", BOTH_WAYS, BOTH_WAYS_LOG, BOTH_WAYS_BROKEN),
     ("held", HELD, HELD_LOG, HELD_BROKEN),
     ("damaged", DAMAGED, DAMAGED_LOG, DAMAGED_BROKEN),
+    ("facts", FACTS, FACTS_LOG, FACTS_BROKEN),
+    ("coded", CODED, CODED_LOG, CODED_BROKEN),
+    ("the same", SAME, SAME_LOG, SAME_BROKEN),
+    ("sealed", SEALED, SEALED_LOG, SEALED_BROKEN),
 ]
