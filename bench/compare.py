@@ -3,7 +3,7 @@
 
 usage: compare.py OURS PEER [ROUNDS]
 
-Writes five scripts, runs both programs on each in turn, compares what they print, and prints the least processor time
+Writes six scripts, runs both programs on each in turn, compares what they print, and prints the least processor time
 and the most memory of each. OURS is the program's binary, PEER is plain.rs built with rustc.
 """
 import hashlib
@@ -13,7 +13,7 @@ import sys
 import tempfile
 
 TIME = "2024-01-02T03:04:05.000000000Z"
-SHAPES = [["hex"], ["big"], ["small"], ["read"], ["make", "1024"]]
+SHAPES = [["hex"], ["big"], ["small"], ["read"], ["keys"], ["make", "1024"]]
 
 
 def cost(command, script):
