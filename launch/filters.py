@@ -13,7 +13,8 @@ import signal
 import sys
 
 UNITS = ("KiB", "MiB", "GiB", "TiB")
-KINDS = {"d": "directory", "f": "file", "l": "link"}
+# What stands behind the UID in the line of a node; `readonly` may follow.
+KINDS = {"d": ("directory", ["path"]), "f": ("file", ["length", "path"]), "l": ("link", ["path", "target"])}
 CANNOT_WRITE = 6
 
 
@@ -32,8 +33,9 @@ def human(size):
 def for_people(lines, _):
     for line in lines:
         words = line.split(" ")
-        if words[0] == "f" and len(words) == 4 and words[2].isdecimal():
-            words[2] = human(int(words[2]))
+        place = {"f": 2, "x": 1}.get(words[0])
+        if place and len(words) >= 4 and words[place].isdecimal():
+            words[place] = human(int(words[place]))
         yield " ".join(words) + "\n"
 
 
@@ -43,11 +45,15 @@ def plain(text):
 
 
 def node(words):
-    found = {"kind": KINDS[words[0]], "uid": int(words[1])}
-    if words[0] == "f":
-        return {**found, "length": int(words[2]), "path": plain(words[3])}
-    found["path"] = plain(words[2])
-    return {**found, "target": plain(words[3])} if words[0] == "l" else found
+    kind, names = KINDS[words[0]]
+    found = {"kind": kind, "uid": int(words[1])}
+    for name, word in zip(names, words[2:]):
+        found[name] = int(word) if name == "length" else plain(word)
+    return {**found, "readonly": True} if len(words) > 2 + len(names) else found
+
+
+def attribute(words):
+    return {"key": plain(words[3]), "length": int(words[1])}
 
 
 def generation(words):
@@ -60,26 +66,37 @@ def end_of_list(words):
 
 # For each command the name of its list, its rows by their first word and how many words they have, and its last line.
 FORMS = {
-    "list": ("nodes", {("d", 3): node, ("f", 4): node, ("l", 4): node}, {("generation", 4): end_of_list}),
+    "list": ("nodes", {(kind, size + more): node for kind, size in (("d", 3), ("f", 4), ("l", 4)) for more in (0, 1)},
+             {("generation", 4): end_of_list}),
     "generations": ("generations", {("g", 5): generation},
                     {("generations", 2): lambda words: {"count": int(words[1])}}),
 }
+ATTRIBUTE, LOCK = ("x", 4), ("lock", 2)
 
 
 def for_programs(lines, command):
     """Yields the pieces of one document of JSON, a row a line."""
     title, rows, ends = FORMS[command]
     yield f'{{"{title}": ['
-    between, end = "\n", {"error": "cut off"}
+    between, facts, end, row = "\n", {}, {"error": "cut off"}, None
     for line in lines:
         # A link's text may be empty.
         words = line.split(" ")
         form = (words[0], len(words))
+        if form == ATTRIBUTE and row:
+            row.setdefault("attributes", []).append(attribute(words))
+            continue
+        if row:
+            yield between + json.dumps(row, ensure_ascii=False)
+            between, row = ",\n", None
         if form in rows:
-            yield between + json.dumps(rows[form](words), ensure_ascii=False)
-            between = ",\n"
+            row = rows[form](words)
+        elif form == LOCK:
+            facts["lock"] = words[1]
         else:
-            end = ends[form](words) if form in ends else {"error": line}
+            end = {**facts, **ends[form](words)} if form in ends else {"error": line}
+    if row:
+        yield between + json.dumps(row, ensure_ascii=False)
     yield "]" + "".join(f", {json.dumps(key)}: {json.dumps(value)}" for key, value in end.items()) + "}\n"
 
 

@@ -10,7 +10,7 @@ import volume
 from local_files import LeftOut, Source
 from progress import Progress
 from putting import File, Plan, Writing
-from scripts import Call, Script, escaped, unescaped
+from scripts import Call, Script, ask_call, escaped, unescaped
 from volume import REFUSED, Failure, shown
 
 UNREADABLE = 5
@@ -56,8 +56,8 @@ class OneFile(File):
 
 
 def look_around(runs, path):
-    """Whether a file stands at the path, and what earlier puts have left beside it."""
-    place, around = Call(b"read %s 0 0" % escaped(path)), Call(b"list %s" % escaped(os.path.dirname(path)))
+    """Whether a file stands at the path, which isn't read-only, and what earlier puts have left beside it."""
+    place, around = ask_call(escaped(path)), Call(b"list %s" % escaped(os.path.dirname(path)))
     script = Script()
     for it in (place, around):
         script.add(0, it)

@@ -16,7 +16,7 @@ from volume import shown
 OWN_NAME = re.compile(rb"\.ltfs_put-[0-9a-f]{16}")
 NAME_CHARACTERS = 255
 # Behind such a reply nothing more is begun.
-STOPS = (b"full", b"fault", b"nomemory", b"no TooMany")
+STOPS = (b"full", b"fault", b"nomemory", b"no TooMany", b"no Locked")
 
 
 def name_on_volume(name, normalize):
@@ -69,7 +69,10 @@ class File:
         return open_plain(self.source)
 
     def writing(self):
-        """The calls that write it apart. Where it changes while it is read, it is read a second time, and no third."""
+        """The calls that write it apart, and in front of them one that sees that what it replaces isn't read-only. Where
+        it changes while it is read, it is read a second time, and no third."""
+        if self.replaces:
+            yield scripts.ask_call(escaped(self.path), self)
         for calls in ([b"create %s"], [b"truncate %s 0"]):
             with self.open() as source:
                 yield from (Call(it % self.apart, self) for it in calls)
@@ -90,8 +93,12 @@ class File:
             self.lost_old |= self.stage == self.PLACING and call.verb == b"remove"
             if call.verb == b"rename":
                 self.stage = self.PLACED
-        elif self.stage != self.DROPPING and not (call.verb == b"remove" and call.reply == b"no NotFound"):
+        elif self.stage != self.DROPPING and not self.is_gone(call):
             self.problem = self.problem or volume.reason(call)
+
+    def is_gone(self, call):
+        """Whether the call tells no more than that nothing stands in its place any more."""
+        return call.reply == b"no NotFound" and (call.verb == b"remove" or call.asks)
 
     def next_calls(self):
         """The calls of its next stage, once those of the one before are run; none where it is through."""

@@ -13,7 +13,9 @@ ALL_BYTES = 67_108_864
 # Besides its words a line has its session of one or two digits, a space and a line feed.
 LINE_BYTES = 4
 NOT_DONE = (b"no", b"full", b"fault", b"nomemory")
-CHANGES = (b"mkdir", b"create", b"write", b"remove", b"rename")
+# Calls that are a change wherever they are done, and those that may leave all as it was.
+CHANGES = (b"mkdir", b"create", b"write", b"remove", b"rename", b"dropx", b"permlock")
+MAY_CHANGE = (b"truncate", b"setx", b"readonly", b"lock", b"unlock")
 PLAIN = frozenset(b"/!\"#$&'()*+,-.:;<=>?@[\\]^_`{|}~") | frozenset(it for it in range(128) if chr(it).isalnum())
 
 
@@ -27,12 +29,13 @@ def unescaped(text):
 
 
 class Call:
-    """A call as its line has it behind the session, with how many bytes it writes or reads, and whose it is. Once it
+    """A call as its line has it behind the session, with how many bytes it writes (or sets) or reads, and whose it is. Once it
     is run it has its reply, and the line of the log that tells it."""
 
     def __init__(self, text, owner=None, written=0, read=0):
         self.text, self.owner, self.written, self.read = text, owner, written, read
         self.verb = text.split(b" ", 1)[0]
+        self.asks = self.verb == b"write" and text.endswith(b" hex:")
         self.reply = self.line = b""
 
     def is_done(self):
@@ -50,6 +53,11 @@ def write_call(path, offset, piece, owner=None):
     else:
         text = b"write %s %d hex:%s" % (path, offset, piece.hex().encode())
     return Call(text, owner, written=len(piece))
+
+
+def ask_call(path, owner=None):
+    """The call that writes no bytes to a file: it changes nothing, and is refused where the file is read-only."""
+    return Call(b"write %s 0 hex:" % path, owner)
 
 
 def read_calls(path, begin, end, owner=None):
@@ -110,8 +118,8 @@ class Script:
 
     def generations(self, before, may_rise=False):
         """In which generations a run may end whose volume began in this one: each change by a call is one of the next
-        one, and setting a length may be none."""
-        done = {it.verb for calls in self.sessions for it in calls if it.is_done()}
+        one, and some calls may be none."""
+        done = {it.verb for calls in self.sessions for it in calls if it.is_done() and not it.asks}
         if any(it in done for it in CHANGES):
             return [before + 1]
-        return [before, before + 1] if may_rise or b"truncate" in done else [before]
+        return [before, before + 1] if may_rise or any(it in done for it in MAY_CHANGE) else [before]

@@ -96,12 +96,12 @@ def any_text(text):
 
 class Form:
     """The words of a command: those that have to stand in their order, one that may follow them, options with a value,
-    and those without one, which the launcher takes, and of which one at most may stand. Of `needs` the first option
-    may stand beside the second one alone. With an end, words that are no options may stand behind `--`."""
+    and those without one. Of `apart` one option at most may stand. Of `needs` the first option may stand beside the
+    second one alone. With an end, words that are no options may stand behind `--`."""
 
-    def __init__(self, words=None, optional=None, options=None, flags=(), needs=None, has_end=True):
+    def __init__(self, words=None, optional=None, options=None, flags=(), apart=(), needs=None, has_end=True):
         self.words, self.optional, self.options = words or {}, optional or {}, options or {}
-        self.flags, self.needs, self.has_end = flags, needs, has_end
+        self.flags, self.apart, self.needs, self.has_end = flags, apart, needs, has_end
 
 
 AT = {"at": moment}
@@ -113,9 +113,9 @@ COMMANDS = {
         "format": Form({**FOLDER, "VOLID": identifier, "UUID": uuid},
                        options={"block": block, "name": name, "ip-size": size, "ip-names": patterns, **AT},
                        flags=("yes",), needs=("ip-names", "ip-size")),
-        "list": Form(FOLDER, flags=("human", "json")),
+        "list": Form(FOLDER, flags=("all", "human", "json"), apart=("human", "json")),
         "generations": Form(FOLDER, flags=("json",)),
-        "view": Form({**FOLDER, "G": generation}, options={"read": path}),
+        "view": Form({**FOLDER, "G": generation}, options={"read": path}, flags=("all",), apart=("all", "read")),
         "serve": Form(FOLDER, options=AT),
         "make": Form({**FOLDER, "N": count}, options=AT),
     },
@@ -186,7 +186,7 @@ class Collecting:
     """The words and the options that were found so far, and the option that waits for its value."""
 
     def __init__(self, form, found):
-        self.form, self.found, self.values, self.flags, self.waits = form, found, {}, [], None
+        self.form, self.found, self.values, self.stand, self.waits = form, found, {}, [], None
 
     def settle(self):
         if self.waits:
@@ -196,15 +196,13 @@ class Collecting:
     def take_option(self, word):
         self.settle()
         option, joined, value = word[2:].partition("=")
-        if word in [f"--{it}" for it in self.form.flags]:
-            self.take_flag(option)
-        elif option not in self.form.options or not word.startswith("--"):
+        is_flag = word in [f"--{it}" for it in self.form.flags]
+        if not is_flag and (option not in self.form.options or not word.startswith("--")):
             raise Misfit(f"unexpected word {word!r}" + self.near(option))
-        elif option in self.values:
-            raise Misfit(f"--{option} stands there twice")
-        elif joined:
+        self.note(option)
+        if joined:
             self.values[option] = value
-        else:
+        elif not is_flag:
             self.waits = option
 
     def near(self, option):
@@ -212,12 +210,13 @@ class Collecting:
         near = difflib.get_close_matches(option, known, 1)
         return f"; '--{near[0]}' is near to it" if near else ""
 
-    def take_flag(self, flag):
-        if flag in self.flags:
-            raise Misfit(f"--{flag} stands there twice")
-        if self.flags:
-            raise Misfit(f"--{self.flags[0]} and --{flag} can't stand together")
-        self.flags.append(flag)
+    def note(self, option):
+        if option in self.stand:
+            raise Misfit(f"--{option} stands there twice")
+        for other in self.stand:
+            if option in self.form.apart and other in self.form.apart:
+                raise Misfit(f"--{other} and --{option} can't stand together")
+        self.stand.append(option)
 
     def take_word(self, word):
         if self.waits:
