@@ -5,8 +5,8 @@ use Rattle.plain_tree.specs.declared.nodes.Kind.TheVariants as kinds
 use Rattle.plain_tree.specs.declared.calls.Answer.{Answer}
 use Rattle.plain_tree.specs.declared.calls.Answer.TheVariants.{Done, Synced, Got, Refused}
 use Rattle.plain_tree.specs.declared.calls.Call.{Call}
-use Rattle.plain_tree.specs.declared.calls.Call.TheVariants.{Create, Mkdir, Write, Truncate, Read, Rename, Remove, Setx, Getx}
-use Rattle.plain_tree.specs.declared.calls.Call.TheVariants.{Dropx, Readonly, LockVolume, UnlockVolume, PermLock, Sync}
+use Rattle.plain_tree.specs.declared.calls.Call.TheVariants.{Create, Mkdir, Write, Truncate, Read, Listing, Stat, Rename, Remove}
+use Rattle.plain_tree.specs.declared.calls.Call.TheVariants.{Setx, Getx, Dropx, Readonly, LockVolume, UnlockVolume, PermLock, Sync}
 use Rattle.plain_tree.specs.declared.calls.LockState.TheVariants as locks
 use Rattle.plain_tree.specs.declared.calls.Refusal.TheVariants.{BadKey, NoKey, NotFound, NotDir, Locked, ReadOnly, TooLong}
 use Rattle.plain_tree.specs.Paths.{Path}
@@ -45,6 +45,10 @@ pub record WorkedRows (at : Moment) : Type 0 where
       (Setx b (0 ∷ []) [] ∷ Setx a [] [] ∷ Getx a (0 ∷ []) ∷ Getx b (0 ∷ [])
       ∷ Setx (codes "a" ∷ codes "x" ∷ []) (codes "k") [] ∷ []) at
       ≡ Refused BadKey ∷ Refused BadKey ∷ Refused NoKey ∷ Refused NotFound ∷ Refused NotDir ∷ []
+  -- a key may be what no name is
+  pub any_keys : answers (with_a at)
+      (Setx a (codes "a/b") (codes "x") ∷ Setx a (codes "..") [] ∷ Getx a (codes "a/b") ∷ Getx a (codes "..") ∷ []) at
+      ≡ Done ∷ Done ∷ Got (codes "x") ∷ Got [] ∷ []
   -- a lock that is taken away
   pub locks : bad_name a ≡ None → answers (empty_tree at) (LockVolume ∷ Mkdir a ∷ UnlockVolume ∷ Mkdir a ∷ []) at
       ≡ Done ∷ Refused Locked ∷ Done ∷ Done ∷ []
@@ -60,6 +64,9 @@ pub record WorkedRows (at : Moment) : Type 0 where
       ∷ Read a 0 1 ∷ []) at
       ≡ Refused Locked ∷ Refused Locked ∷ Refused Locked ∷ Refused Locked ∷ Refused Locked ∷ Refused Locked
       ∷ Refused Locked ∷ Got [] ∷ []
+  -- what is seen is answered under a lock as without one
+  pub seen_locked : answers (after (with_a at) LockVolume at) (Getx a (codes "k") ∷ Listing b ∷ Stat b ∷ []) at
+      ≡ Refused NoKey ∷ Refused NotFound ∷ Refused NotFound ∷ []
   -- the flag stands behind what is no file and before a length that is too great, also where nothing would change
   pub of_write : answers (with_a at) (Readonly a true ∷ Write a 0 [] ∷ []) at ≡ Done ∷ Refused ReadOnly ∷ []
   pub of_truncate : answers (with_a at) (Readonly a true ∷ Truncate a (2 ^ 40 + 1) ∷ []) at
