@@ -2,7 +2,7 @@
 use Rattle.std.proofs.Common.{◌≡◌, ℕ, ◌+◌, ◌-◌, ◌<◌, ◌≤◌, List, [], ◌∷◌, ◌++◌, length, get_or, take, drop, codes, sym, ap, ◌∙◌, arith, append-nil, append_assoc}
 use lib.Seq.{drop-drop}
 use Rattle.std.specs.List.{flat_map}
-use Rattle.std.proofs.lemmas.List.{drop_all, flat_map_more, nil_from_length, take_all, take_more, take_rest, take-append-drop}
+use Rattle.std.proofs.lemmas.List.{drop_all, flat_map_more, nil_from_length, take_more, take_rest, take-append-drop}
 use Rattle.std.proofs.lemmas.Grind.{flat_map-append}
 use Rattle.plain_tree.specs.declared.calls.Entry.{Entry}
 use Rattle.session_script.specs.Escapes.{escaped}
@@ -14,10 +14,10 @@ one_more f xs i d old new lt before added =
     added ∙ ap (λ l. l ++ f (get_or xs i d)) before ∙ flat_map_more f [] (take i xs) (get_or xs i d) ∙ ap (flat_map f) (sym (take_more xs i d lt))
 
 -- the texts of the first n elements, and those of the others, are those of all
-pub first_and_rest : {X : Type 0} (f : X → List ℕ) (xs : List X) (n i : ℕ) (first : List ℕ) → first ≡ flat_map f (take i (take n xs)) → length (take n xs) ≤ i
+pub first_and_rest : {X : Type 0} (f : X → List ℕ) (xs : List X) (n : ℕ) (first : List ℕ) → first ≡ flat_map f (take n xs)
     → first ++ flat_map f (take (length xs - n) (drop n xs)) ≡ flat_map f xs
-first_and_rest f xs n i first so_far all =
-    ap (λ l. l ++ flat_map f (take (length xs - n) (drop n xs))) (so_far ∙ ap (flat_map f) (take_all i (take n xs) all))
+first_and_rest f xs n first is =
+    ap (λ l. l ++ flat_map f (take (length xs - n) (drop n xs))) is
     ∙ ap (λ l. flat_map f (take n xs) ++ flat_map f l) (take_rest xs n)
     ∙ sym (flat_map-append f (take n xs) (drop n xs))
     ∙ ap (flat_map f) (take-append-drop n xs)
@@ -57,11 +57,6 @@ pub end_next : (hex text : List ℕ) (entries : List Entry) (end short : List �
     → short ++ (flat_map hex_byte hex ++ (escaped text ++ (flat_map entry_text entries ++ []))) ≡ flat_map hex_byte hex ++ (escaped text ++ (flat_map entry_text entries ++ end))
 end_next hex text entries end short no_hex no_text no_entry is =
     ap (λ l. short ++ l) (sym (end_none hex text entries [] no_hex no_text no_entry)) ∙ append-nil short ∙ is ∙ end_none hex text entries end no_hex no_text no_entry
-
--- two bytes more
-pub two_more : (old mid new : List ℕ) (a b x y : ℕ) → mid ≡ old ++ a ∷ [] → new ≡ mid ++ b ∷ [] → a ≡ x → b ≡ y → new ≡ old ++ x ∷ y ∷ []
-two_more old mid new a b x y first second is also =
-    second ∙ ap (λ s. s ++ b ∷ []) first ∙ append_assoc old (a ∷ []) (b ∷ []) ∙ ap (λ v. old ++ v ∷ b ∷ []) is ∙ ap (λ v. old ++ x ∷ v ∷ []) also
 
 -- what was written, then what is left, stays the same where some of the bytes that stand ready are given
 pub given_on : (room new short ready tail text : List ℕ) (at given count : ℕ) → ready ≡ short → take (at + count) new ≡ take at room ++ take count (take (length ready - given) (drop given ready)) → drop given short ++ tail ≡ text

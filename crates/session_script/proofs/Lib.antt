@@ -7,6 +7,7 @@ pub mod Fillings
 pub mod FormLaws
 pub mod GrammarLaws
 pub mod HexBytes
+pub mod HexText
 pub mod HistoryLemmas
 pub mod LineLaws
 pub mod MadeLemmas

@@ -2,6 +2,8 @@ pub mod Bounds
 pub mod Escapes
 pub mod Forms
 pub mod Grammar
+pub mod HeldReplies
+pub mod KeptReplies
 pub mod Limits
 pub mod LogLines
 pub mod LogText

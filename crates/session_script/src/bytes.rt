@@ -72,12 +72,12 @@ fn hex_bytes(alloc: Global, digits: &[u8]) -> Result<Option<Vec<u8>>, NoMemory>
     if digits.len() % 2 != 0 {
         return Ok(None);
     }
-    let mut bytes = Vec::with_capacity(alloc, digits.len() / 2)?;
+    let mut bytes = vec![in alloc; 0u8; digits.len() / 2]?;
     for k in 0..digits.len() / 2 {
         let Some(byte) = byte_of(digits[2 * k], digits[2 * k + 1]) else {
             return Ok(None);
         };
-        bytes.push(byte)?;
+        bytes[k] = byte;
     }
     Ok(Some(bytes))
 }

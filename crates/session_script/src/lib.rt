@@ -6,6 +6,7 @@ mod bytes;
 mod drafts;
 mod escapes;
 mod faults;
+mod kept;
 mod laws;
 mod limits;
 mod log_lines;
@@ -22,6 +23,7 @@ mod words;
 
 pub use escapes::push_escaped;
 pub use faults::LineFault;
+pub use kept::{GoneReply, HeldReply, KeptReply};
 pub use laws::{limits_are, reads_the_grammar, refuses_the_first};
 pub use limits::{
     LONGEST_SCRIPT, MOST_ASKED, MOST_CALLS, MOST_IN_ALL, MOST_SESSIONS, MOST_WRITTEN,

@@ -1,5 +1,6 @@
 ghost use Rattle.std.specs.Prelude.{◌≡◌, IfOk};
 
+use crate::kept::KeptReply;
 use plain_tree::{Answer, Placed};
 use std::alloc::Global;
 use tape_types::{List, NoMemory, Place, Twin};
@@ -73,11 +74,12 @@ pub enum Event {
     },
 }
 
-/// What a run did. Each placement of the history has the reply at the same position.
+/// What a run did. Each placement of the history has the reply at the same position; of a volume that was served, a long
+/// one may be gone.
 #[derive(Drop)]
 pub struct Log {
     pub history: List<Placed>,
-    pub replies: List<Reply>,
+    pub replies: List<KeptReply>,
     pub acks: List<Ack>,
     pub events: List<Event>,
 }

@@ -6,19 +6,23 @@ use crate::logs::Log;
 use std::alloc::Global;
 use tape_types::{Bytes, NoMemory};
 
-/// The log as it is printed: a line for each placement and its reply, in order.
+/// The log as it is printed: a line for each placement and its reply, in order. It is refused where memory is, and where
+/// a reply is gone.
 pub fn log_text(alloc: Global, log: &Log) -> Result<Bytes, NoMemory>
     ensures { IfOk result (λ text. text ≡ log_text log.now) }
 {
     let mut text = Vec::new(alloc);
     let mut room = [0; 1024];
-    for (place, (placed, reply)) in log
+    for (place, (placed, kept)) in log
         .history
         .as_slice()
         .iter()
         .zip(log.replies.as_slice())
         .enumerate()
     {
+        let Some(reply) = kept.get() else {
+            return Err(NoMemory);
+        };
         push_line(
             &mut text,
             LogLine::new(place as u64, placed, reply),

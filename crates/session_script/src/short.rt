@@ -19,7 +19,9 @@ impl Model for Short {
 }
 
 impl Short {
-    ghost use Rattle.std.specs.Prelude.{◌≡◌, ◌+◌, ◌≤◌, ◌<◌, [], ◌∷◌, ◌++◌, length, decimal};
+    ghost use Rattle.std.specs.Prelude.{◌≡◌, ◌+◌, ◌*◌, ◌≤◌, ◌<◌, [], ◌∷◌, ◌++◌, length, decimal};
+    ghost use Rattle.std.specs.List.{flat_map};
+    ghost use Rattle.session_script.specs.LogText.{hex_byte};
 
     pub fn new() -> Short
         ensures { result ≡ [] }
@@ -63,6 +65,16 @@ impl Short {
     {
         let end = self.len + word.len();
         self.bytes[self.len..end].copy_from_slice(word);
+        self.len = end;
+    }
+
+    /// Puts bytes in hexadecimal.
+    pub fn put_hex(&mut self, bytes: &[u8])
+        requires { length self.old + 2 * length bytes.now ≤ 256 }
+        ensures { self.new ≡ self.old ++ flat_map hex_byte bytes.now }
+    {
+        let end = self.len + 2 * bytes.len();
+        let _ = hex::encode_to_slice(bytes, &mut self.bytes[self.len..end]);
         self.len = end;
     }
 

@@ -1,6 +1,6 @@
 //! What a reply tells at length, a few bytes at a time.
 
-ghost use Rattle.std.specs.Prelude.{◌≡◌, ◌⊎◌, ◌+◌, ◌*◌, ◌<◌, ◌≤◌, [], ◌++◌, length, codes, if◌then◌else◌, true, false};
+ghost use Rattle.std.specs.Prelude.{◌≡◌, ◌⊎◌, ◌+◌, ◌*◌, ◌<◌, ◌≤◌, [], ◌++◌, length, codes, true};
 ghost use Rattle.std.specs.Fmt.{digit_glyph};
 ghost use Rattle.std.specs.List.{flat_map};
 ghost use Rattle.session_script.specs.Escapes.{escaped, escaped_byte};
@@ -72,10 +72,7 @@ fn put_hex<'a>(short: &mut Short, bytes: &'a [u8]) -> &'a [u8]
     ensures some { 0 < length bytes.now → 0 < length short.new }
 {
     let count = bytes.len().min(MOST_HEX);
-    for byte in &bytes[..count] {
-        short.push(glyph(*byte / 16, b'a'));
-        short.push(glyph(*byte % 16, b'a'));
-    }
+    short.put_hex(&bytes[..count]);
     &bytes[count..]
 }
 
@@ -100,24 +97,22 @@ fn put_byte(short: &mut Short, byte: u8)
 {
     if is_escaped(byte) {
         short.push(b'%');
-        short.push(glyph(byte / 16, b'A'));
-        short.push(glyph(byte % 16, b'A'));
+        short.push(glyph(byte / 16));
+        short.push(glyph(byte % 16));
     } else {
         short.push(byte);
     }
 }
 
-/// The hexadecimal digit of a value below 16, with this letter for ten.
-fn glyph(value: u8, ten: u8) -> u8
-    requires value { value < 16 }
-    requires letter { (ten ≡ 97) ⊎ (ten ≡ 65) }
-    ensures lower { ten ≡ 97 → result ≡ digit_glyph false value }
-    ensures upper { ten ≡ 65 → result ≡ digit_glyph true value }
+/// The hexadecimal digit of a value below 16, in upper case.
+fn glyph(value: u8) -> u8
+    requires { value < 16 }
+    ensures { result ≡ digit_glyph true value }
 {
     if value < 10 {
         b'0' + value
     } else {
-        ten + (value - 10)
+        b'A' + (value - 10)
     }
 }
 

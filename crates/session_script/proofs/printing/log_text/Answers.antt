@@ -18,8 +18,8 @@ one_more all k n e old new here next before added =
 
 pub loop-place-preserved : goal.loop-place-preserved
 loop-place-preserved c =
-    let t = YieldsList-turn (YieldsList-from_enumerate (YieldsList-from_zip (YieldsList-from_slice c.args.log.now.history (cc)) (YieldsList-from_slice c.args.log.now.replies (cc))) (cc)) c.loop-place.yielded c.loop-place.place-iterator c.loop-place.yielded_by c.next.result c.next.new.self (c.in-Some.place, (c.in-Some.placed, c.in-Some.reply)) c.in-Some.is c.next.ensures.steps in
-    one_more _ (length c.loop-place.yielded) _ (c.in-Some.place, (c.in-Some.placed.now, c.in-Some.reply.now)) c.loop-place.text.items _ t (length_push c.loop-place.yielded _) c.loop-place.invariant (c.in_ok-push_line.ensures ∙ ap (λ l. c.loop-place.text.items ++ l) c.new.ensures)
+    let t = YieldsList-turn (YieldsList-from_enumerate (YieldsList-from_zip (YieldsList-from_slice c.args.log.now.history (cc)) (YieldsList-from_slice c.args.log.now.replies (cc))) (cc)) c.loop-place.yielded c.loop-place.place-iterator c.loop-place.yielded_by c.next.result c.next.new.self (c.in-Some.place, (c.in-Some.placed, c.in-Some.kept)) c.in-Some.is c.next.ensures.steps in
+    one_more _ (length c.loop-place.yielded) _ (c.in-Some.place, (c.in-Some.placed.now, c.in-Some.kept.now)) c.loop-place.text.items _ t (length_push c.loop-place.yielded _) c.loop-place.invariant (c.in_ok-push_line.ensures ∙ ap (λ l. c.loop-place.text.items ++ l) (c.new.ensures ∙ ap (λ (r : Reply). line_text c.in-Some.place c.in-Some.placed.now r) c.in-Some-get.ensures.some))
 
 pub returns : goal.returns
 returns c =

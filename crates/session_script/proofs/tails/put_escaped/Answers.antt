@@ -1,4 +1,6 @@
-use Rattle.std.proofs.Common.{take, arith, length-take}
+use Rattle.std.proofs.Common.{take, ap, ◌∙◌, arith, length-take}
+use Rattle.std.specs.List.{flat_map}
+use Rattle.std.proofs.lemmas.List.{take_all}
 use Rattle.session_script.specs.Escapes.{escaped, escaped_byte}
 use Rattle.session_script.proofs.Fillings.{one_more, first_and_rest}
 use Rattle.session_script.proofs.tails.put_escaped.Goals as goal
@@ -15,7 +17,10 @@ loop-byte-preserved c = record {
 
 pub returns-clause-same : goal.returns-clause-same
 unfolding escaped
-returns-clause-same c = first_and_rest escaped_byte c.args.text.now c.min-count.result c.loop-byte.byte-index c.loop-byte.short c.loop-byte.invariant.so_far c.loop-byte-test.false
+returns-clause-same c =
+    let first = take c.min-count.result c.args.text.now in
+    first_and_rest escaped_byte c.args.text.now c.min-count.result c.loop-byte.short
+    (c.loop-byte.invariant.so_far ∙ ap (flat_map escaped_byte) (take_all c.loop-byte.byte-index first c.loop-byte-test.false))
 
 pub returns-clause-some : goal.returns-clause-some
 returns-clause-some c = λ some.
