@@ -1,3 +1,4 @@
 pub mod TrailLemmas
 mod PlacementLemmas
 mod MovedLemmas
+pub mod LetGoLemmas

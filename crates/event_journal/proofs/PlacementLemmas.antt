@@ -244,7 +244,7 @@ listed_placed history told marks calls sessions h r more_h more_r room left plac
     }
 
 -- a reply more
-pub listed_answered : (history : List Placed) (told : List (Option Reply)) (marks : List Stored) (calls sessions h r room at : ℕ) (reply : Reply)
+listed_answered : (history : List Placed) (told : List (Option Reply)) (marks : List Stored) (calls sessions h r room at : ℕ) (reply : Reply)
     → IsListed history told marks calls sessions h r room → slice_get told at ≡ Some None
     → IsListed history (slice_set told at (Some reply)) marks calls sessions h r room
 listed_answered history told marks calls sessions h r room at reply is none =
@@ -367,8 +367,18 @@ place_marks sessions here history told more marks now shown_before who place rig
     ∙ ap (λ ms. ms ++ mark who (kinds.Places here) ∷ []) (shown_stays sessions told (told ++ None ∷ []) marks (keeps_more told None) right))
 
 -- a reply that comes to its place changes no mark that is shown
-pub answer_marks : (sessions place : ℕ) (told : List (Option Reply)) (marks : List Stored) (shown_before : List Mark) (reply : Reply)
-    → AllByRecursion (IsOfSession sessions told) marks → slice_get told place ≡ Some None → map (shown told) marks ≡ shown_before
-    → map (shown (slice_set told place (Some reply))) marks ≡ shown_before
-answer_marks sessions place told marks shown_before reply right none before =
-    shown_stays sessions told (slice_set told place (Some reply)) marks (keeps_set told place (Some reply) none) right ∙ before
+pub answer_marks : (sessions place : ℕ) (told now : List (Option Reply)) (marks : List Stored) (shown_before : List Mark) (reply : Reply)
+    → AllByRecursion (IsOfSession sessions told) marks → slice_get told place ≡ Some None
+    → now ≡ slice_set told place (Some reply) → map (shown told) marks ≡ shown_before
+    → map (shown now) marks ≡ shown_before
+answer_marks sessions place told now marks shown_before reply right none now_is before =
+    ap (λ (l : List (Option Reply)). map (shown l) marks) now_is
+    ∙ shown_stays sessions told (slice_set told place (Some reply)) marks (keeps_set told place (Some reply) none) right ∙ before
+
+-- with a reply that comes to its place there is room as before
+pub answer_listed : (history : List Placed) (told now : List (Option Reply)) (marks : List Stored)
+    (calls sessions h r r_now room at : ℕ) (reply : Reply)
+    → IsListed history told marks calls sessions h r room → slice_get told at ≡ Some None
+    → now ≡ slice_set told at (Some reply) → r_now ≡ r → IsListed history now marks calls sessions h r_now room
+answer_listed history told now marks calls sessions h r r_now room at reply is none now_is same =
+    rw (now_is, same) (listed_answered history told marks calls sessions h r room at reply is none)

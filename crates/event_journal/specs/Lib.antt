@@ -1,2 +1,3 @@
+pub mod LetGo
 pub mod Placements
 pub mod Trails

@@ -4,6 +4,7 @@
 
 mod lists;
 mod placements;
+mod replies;
 mod trails;
 
 pub use placements::{Placements, Stored, What};

@@ -1,16 +1,18 @@
 //! What was placed and replied, and what each session was told.
 
 ghost use Rattle.std.specs.Prelude.{◌≡◌, ◌≢◌, ◌+◌, ◌*◌, ◌<◌, ◌≤◌, ◌^◌, ◌==◌, count_by, ℕ, true, [], ◌∷◌, ◌++◌, All};
-ghost use Rattle.std.specs.Prelude.{is_some, length, map, OnOk, IfOk, IfSome, None, Some, Option, option_map};
+ghost use Rattle.std.specs.Prelude.{is_some, length, map, OnOk, IfOk, IfNone, IfSome, None, Some, Option, option_map};
 ghost use Rattle.std.specs.Prelude.{slice_get, slice_set, vec_len, vec_capacity};
 ghost use Rattle.session_script.specs.declared.logs.Reply.{Reply};
 ghost use Rattle.promises.specs.declared.serving_promise.marks.MarkKind.TheVariants as kinds;
 ghost use Rattle.promises.specs.ServingPromise.Marks.{draining, mark, phase, waits};
+ghost use Rattle.event_journal.specs.LetGo.{MayBeGoneAt};
 ghost use Rattle.event_journal.specs.Placements.{Listed, or_none, there};
 
-use crate::lists::{all_there, push};
+use crate::lists::push;
+use crate::replies::{all_kept, let_go, push_none, put};
 use plain_tree::Placed;
-use session_script::Reply;
+use session_script::{HeldReply, KeptReply, Reply};
 use std::alloc::Global;
 use std::marker::Model;
 use tape_types::{List, NoMemory};
@@ -35,39 +37,54 @@ pub struct Stored {
     pub what: What,
 }
 
-/// The placements of a volume, their replies, and the marks of its sessions.
+/// The placements of a volume, their replies, and the marks of its sessions. As a call is placed, the long replies go
+/// that were handed out with all before them, unless all are kept: from then on they stand for contracts alone.
 #[derive(Drop)]
 pub struct Placements {
     history: Vec<Placed>,
-    replies: Vec<Option<Reply>>,
+    replies: Vec<Option<HeldReply>>,
+    /// Whether the reply of each place was handed out.
+    handed: Vec<bool>,
+    /// So many of the first replies were handed out when a call was placed.
+    front: usize,
     marks: Vec<Stored>,
     calls: usize,
     sessions: usize,
+    /// Whether long replies go.
+    spares: bool,
 }
 
 impl Model for Placements {
     ghost use Rattle.std.specs.Prelude.{◌-◌, map, length, vec_len, vec_capacity};
+    ghost use Rattle.event_journal.specs.LetGo.{AreKept, values};
     ghost use Rattle.event_journal.specs.Placements.{IsListed, Listed, owed, shown};
 
     ghost Value = { Listed };
 
     ghost view = { λ a. record {
       history = a.history.items;
-      replies = a.replies.items;
-      marks = map (shown a.replies.items) a.marks.items;
+      replies = values a.replies.items;
+      marks = map (shown (values a.replies.items)) a.marks.items;
       calls = a.calls;
       sessions = a.sessions;
       spare = vec_capacity a.marks - vec_len a.marks
-          - owed a.calls a.sessions (length a.history.items) (map (shown a.replies.items) a.marks.items);
+          - owed a.calls a.sessions (length a.history.items) (map (shown (values a.replies.items)) a.marks.items);
     } };
 
-    ghost invariant = { λ a. IsListed a.history.items a.replies.items a.marks.items a.calls a.sessions
-        (vec_capacity a.history) (vec_capacity a.replies) (vec_capacity a.marks - vec_len a.marks) };
+    ghost invariant = { λ a. IsListed a.history.items (values a.replies.items) a.marks.items a.calls a.sessions
+        (vec_capacity a.history) (vec_capacity a.replies) (vec_capacity a.marks - vec_len a.marks)
+        × AreKept a.replies.items a.handed.items a.front (map (shown (values a.replies.items)) a.marks.items) a.calls
+        (vec_capacity a.handed) };
 }
 
 impl Placements {
-    /// Nothing was placed. There is room for so many calls of so many sessions.
-    pub fn new(alloc: Global, calls: usize, sessions: usize) -> Result<Placements, NoMemory>
+    /// Nothing was placed. There is room for so many calls of so many sessions. Where memory is spared, long replies go.
+    pub fn new(
+        alloc: Global,
+        calls: usize,
+        sessions: usize,
+        spares: bool,
+    ) -> Result<Placements, NoMemory>
         ensures history { IfOk result (λ p. p.history ≡ []) }
         ensures replies { IfOk result (λ p. p.replies ≡ []) }
         ensures marks { IfOk result (λ p. p.marks ≡ []) }
@@ -79,13 +96,17 @@ impl Placements {
         };
         let history = Vec::with_capacity(alloc, calls)?;
         let replies = Vec::with_capacity(alloc, calls)?;
+        let handed = Vec::with_capacity(alloc, calls)?;
         let marks = Vec::with_capacity(alloc, twice)?;
         Ok(Placements {
             history,
             replies,
+            handed,
+            front: 0,
             marks,
             calls,
             sessions,
+            spares,
         })
     }
 
@@ -108,7 +129,7 @@ impl Placements {
 
     /// The placements and their replies, all of which are there. The replies are moved into a vector that has room for
     /// them.
-    pub fn into_lists(self, told: Vec<Reply>) -> (List<Placed>, List<Reply>)
+    pub fn into_lists(self, told: Vec<KeptReply>) -> (List<Placed>, List<KeptReply>)
         requires there { All (λ r. is_some r ≡ true) self.replies }
         requires empty { told.items ≡ [] }
         requires room { length self.replies ≤ vec_capacity told }
@@ -118,11 +139,14 @@ impl Placements {
         let Placements {
             history,
             replies,
+            handed: _,
+            front: _,
             marks: _,
             calls: _,
             sessions: _,
+            spares: _,
         } = self;
-        let told = all_there(replies, told);
+        let told = all_kept(replies, told);
         (List::from_vec(history), List::from_vec(told))
     }
 
@@ -150,6 +174,14 @@ impl Placements {
         self.history[place as usize].who
     }
 
+    /// What was placed here.
+    pub fn placed(&self, place: u64) -> Placed
+        requires { place < length self.now.history }
+        ensures { slice_get self.now.history place ≡ Some result }
+    {
+        self.history[place as usize]
+    }
+
     /// How many calls of a session were placed. It goes over all placements.
     pub fn count(&self, who: u16) -> usize
         ensures { result ≡ count_by (λ p. p.who == who) self.now.history }
@@ -160,17 +192,35 @@ impl Placements {
             .count()
     }
 
-    /// The reply at a place, where it is there.
-    pub fn reply(&self, place: u64) -> Option<&Reply>
-        ensures { option_map (λ r. r.now) result ≡ there (slice_get self.now.replies place) }
+    /// Whether the reply of a place is there.
+    pub fn has_reply(&self, place: u64) -> bool
+        ensures { result ≡ is_some (there (slice_get self.now.replies place)) }
     {
         match self.replies.get(place as usize) {
-            Some(Some(reply)) => Some(reply),
-            _ => None,
+            Some(Some(_)) => true,
+            _ => false,
         }
     }
 
-    /// Places a call. Its reply isn't there yet.
+    /// The reply of a place, where it is there. A long one may be gone, once it and all before it were handed out and a
+    /// call was placed behind that.
+    pub fn reply(&self, place: u64) -> Option<&Reply>
+        ensures some { IfSome result (λ r. slice_get self.now.replies place ≡ Some (Some r.now)) }
+        ensures none { IfNone result (MayBeGoneAt place self.now.replies self.now.marks) }
+    {
+        match self.replies.get(place as usize) {
+            Some(Some(HeldReply::Here(reply))) => Some(reply),
+            Some(Some(HeldReply::Gone(gone))) => {
+                gone.was_long();
+                None
+            }
+            Some(None) => None,
+            None => None,
+        }
+    }
+
+    /// Places a call. Its reply isn't there yet. Where memory is spared, the long replies go that were handed out with all
+    /// before them.
     pub fn place(&mut self, placed: Placed)
         requires room { length self.old.history < self.old.calls }
         requires low { 1 ≤ placed.who }
@@ -183,8 +233,11 @@ impl Placements {
         ensures sessions { self.new.sessions ≡ self.old.sessions }
     {
         let here = self.history.len() as u64;
+        let handed = self.handed.as_slice();
+        self.front = let_go(&mut self.replies, handed, self.front, self.spares);
         push(&mut self.history, placed);
         push_none(&mut self.replies);
+        push(&mut self.handed, false);
         push(
             &mut self.marks,
             Stored {
@@ -203,7 +256,7 @@ impl Placements {
         ensures calls { self.new.calls ≡ self.old.calls }
         ensures sessions { self.new.sessions ≡ self.old.sessions }
     {
-        self.replies[place as usize] = Some(reply);
+        put(&mut self.replies, place as usize, reply);
     }
 
     /// The reply of a place is handed out to its session.
@@ -219,6 +272,7 @@ impl Placements {
         ensures calls { self.new.calls ≡ self.old.calls }
         ensures sessions { self.new.sessions ≡ self.old.sessions }
     {
+        self.handed[place as usize] = true;
         push(
             &mut self.marks,
             Stored {
@@ -275,15 +329,4 @@ fn needed(left: usize, sessions: usize) -> Option<usize>
     ensures { IfSome result (λ n. n ≡ 2 * left + sessions + 2) }
 {
     left.checked_mul(2)?.checked_add(sessions)?.checked_add(2)
-}
-
-/// One more reply that isn't there yet, for which there is room.
-fn push_none(replies: &mut Vec<Option<Reply>>)
-    requires { vec_len replies.old < vec_capacity replies.old }
-    ensures items { replies.new.items ≡ replies.old.items ++ None ∷ [] }
-    ensures capacity { vec_capacity replies.old ≤ vec_capacity replies.new }
-{
-    if replies.push(None).is_err() {
-        unreachable!();
-    }
 }
