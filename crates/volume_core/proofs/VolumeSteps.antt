@@ -3,6 +3,7 @@ pub mod AwaitLemmas
 pub mod ChangeLemmas
 pub mod EndLemmas
 pub mod FillLemmas
+pub mod HandLemmas
 pub mod OpLemmas
 pub mod PickLemmas
 pub mod PlacingLemmas

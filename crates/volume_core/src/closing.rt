@@ -10,13 +10,13 @@ use crate::finishing::finish;
 use crate::leaving::take_log;
 use crate::volume_steps::Parts;
 use promises::serving_promise::{Closed, Left};
-use session_script::Reply;
+use session_script::KeptReply;
 use tape_drive::Drive;
 use tape_types::Moment;
 
 /// Makes the commands of a close at a moment, and gives back the drive with the log, what that has cost, and how many
 /// nodes the tree has. The replies of the log, which are all there, are moved into a vector that has room for them.
-pub fn close<D: Drive>(parts: Parts<D>, noted: bool, at: Moment, told: Vec<Reply>) -> Closed<D>
+pub fn close<D: Drive>(parts: Parts<D>, noted: bool, at: Moment, told: Vec<KeptReply>) -> Closed<D>
     requires can { IsToClose D.Drive at (seen_parts parts) }
     requires there { All (λ r. is_some r ≡ true) parts.placements.replies }
     requires empty { told.items ≡ [] }

@@ -6,12 +6,12 @@ ghost use Rattle.volume_core.specs.Leaving.{IsLeft};
 
 use crate::volume_steps::Parts;
 use promises::serving_promise::Left;
-use session_script::{Log, Reply};
+use session_script::{KeptReply, Log};
 use tape_drive::Drive;
 
 /// The drive, and the log of all calls, whose replies are all there. These are moved into a vector that has room for
 /// them.
-pub fn take_log<D: Drive>(parts: Parts<D>, told: Vec<Reply>) -> Left<D>
+pub fn take_log<D: Drive>(parts: Parts<D>, told: Vec<KeptReply>) -> Left<D>
     requires there { All (λ r. is_some r ≡ true) parts.placements.replies }
     requires empty { told.items ≡ [] }
     requires room { length parts.placements.replies ≤ vec_capacity told }

@@ -19,14 +19,15 @@ use std::alloc::Global;
 use tape_drive::Drive;
 use waiting_reads::Readings;
 
-/// The parts of a volume that was mounted, with room for so many calls of so many sessions. A refusal, which is for
-/// want of memory alone, hands the drive back.
+/// The parts of a volume that was mounted, with room for so many calls of so many sessions. Where memory is spared,
+/// long replies go. A refusal, which is for want of memory alone, hands the drive back.
 pub fn begin<D: Drive>(
     alloc: Global,
     mounted: Mounted,
     drive: D,
     calls: usize,
     sessions: usize,
+    spares: bool,
 ) -> Result<Parts<D>, D>
     requires { IsMount (D.limits drive) mounted }
     ensures limits { IfOk result (λ p. IsLimits (D.limits drive)) }
@@ -39,7 +40,7 @@ pub fn begin<D: Drive>(
     let Ok(stock) = Stock::start(alloc, mounted, limits) else {
         return Err(drive);
     };
-    let Ok(placements) = Placements::new(alloc, calls, sessions) else {
+    let Ok(placements) = Placements::new(alloc, calls, sessions, spares) else {
         return Err(drive);
     };
     let Ok(cache) = BlockCache::new(alloc) else {

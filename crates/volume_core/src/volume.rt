@@ -1,8 +1,9 @@
 //! The volume, and its calls.
 
-ghost use Rattle.std.specs.Prelude.{◌≡◌, ◌≤◌, ◌+◌, ◌-◌, ℕ, [], length, IfErr, IfOk, IfSome};
+ghost use Rattle.std.specs.Prelude.{◌≡◌, ◌≤◌, ◌<◌, ◌+◌, ◌-◌, ℕ, [], length, slice_get, IfErr, IfNone, IfOk, IfSome, Some};
 ghost use Rattle.session_script.specs.Grammar.{calls_of};
 ghost use Rattle.session_script.specs.Sessions.{greatest_session};
+ghost use Rattle.event_journal.specs.LetGo.{MayBeGoneAt};
 ghost use Rattle.cartridge_meaning.specs.Mounts.{IsMount, Mounts};
 ghost use Rattle.promises.specs.ServingPromise.Ends.{Closes, Parts as LeavesApart, Starts};
 ghost use Rattle.promises.specs.ServingPromise.Marks.{NothingWaits, draining, phase, waits};
@@ -26,9 +27,9 @@ use crate::turning::turn;
 use crate::volume_steps::Parts;
 use cartridge_meaning::Mounted;
 use held_volume::Stock;
-use plain_tree::Call;
+use plain_tree::{Call, Placed};
 use promises::serving_promise::{Closed, Drained, Kept, Submitted, Turn};
-use session_script::{Reply, Script};
+use session_script::{KeptReply, Reply, Script};
 use std::alloc::Global;
 use std::marker::Model;
 use std::snapshot::Snapshot;
@@ -44,7 +45,7 @@ pub struct Volume<D: Drive, C: Clock> {
     script: Script,
     alloc: Global,
     /// Room for the replies of the log.
-    told: Vec<Reply>,
+    told: Vec<KeptReply>,
     /// Whether both notes told of the last indexes when the volume was mounted.
     noted: bool,
     mounted: Snapshot<Mounted>,
@@ -82,7 +83,8 @@ impl<D: Drive, C: Clock> Model for Volume<D, C> {
 
 impl<D: Drive, C: Clock> Volume<D, C> {
     /// Begins to serve a volume that was mounted. Of crashes is spoken since a number of the drive's commands, which is
-    /// the caller's choice; the drive had reached it. It makes no command of the drive. The refusal is want of memory.
+    /// the caller's choice; the drive had reached it. It makes no command of the drive. Where memory is spared, names and
+    /// bytes of replies go as `reply` tells. The refusal is want of memory.
     pub fn start(
         alloc: Global,
         mounted: Mounted,
@@ -90,6 +92,7 @@ impl<D: Drive, C: Clock> Volume<D, C> {
         clock: C,
         script: Script,
         since: Snapshot<u64>,
+        spares: bool,
     ) -> Result<Volume<D, C>, Kept<D, C>>
         requires mounts { IfSome (D.held drive) (λ c. Mounts c mounted) }
         requires mount { IsMount (D.limits drive) mounted }
@@ -109,7 +112,7 @@ impl<D: Drive, C: Clock> Volume<D, C> {
         let Ok(told) = Vec::with_capacity(alloc, calls) else {
             return Err(Kept { drive, clock });
         };
-        match begin(alloc, mounted, drive, calls, sessions) {
+        match begin(alloc, mounted, drive, calls, sessions, spares) {
             Ok(parts) => {
                 let stock = Snapshot::of(&parts.stock);
                 Ok(Volume {
@@ -191,6 +194,30 @@ impl<D: Drive, C: Clock> Volume<D, C> {
         ensures { result ≡ length self.now.marks }
     {
         self.parts.placements.count_marks()
+    }
+
+    /// How many calls were placed.
+    pub fn placements(&self) -> u64
+        ensures { result ≡ length self.now.history }
+    {
+        self.parts.placements.len()
+    }
+
+    /// The reply at a place of the history, where it is there. A long one may be gone, once it and all before it were
+    /// handed out and a call was placed behind that.
+    pub fn reply(&self, place: u64) -> Option<&Reply>
+        ensures some { IfSome result (λ r. slice_get self.now.replies place ≡ Some (Some r.now)) }
+        ensures none { IfNone result (MayBeGoneAt place self.now.replies self.now.marks) }
+    {
+        self.parts.placements.reply(place)
+    }
+
+    /// What was placed here.
+    pub fn placed(&self, place: u64) -> Placed
+        requires { place < length self.now.history }
+        ensures { slice_get self.now.history place ≡ Some result }
+    {
+        self.parts.placements.placed(place)
     }
 
     /// Whatever was asked of it, all is kept that is promised of a served volume.

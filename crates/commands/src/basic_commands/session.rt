@@ -6,7 +6,7 @@ ghost use Rattle.commands.specs.BasicCommands.Headline.{IsMoment, IsPlainRun};
 ghost use Rattle.commands.specs.BasicCommands.Sessions.{after_fate};
 
 use plain_tree::{Call, Fate, Placed, Plain};
-use session_script::{Log, Reply, Script};
+use session_script::{KeptReply, Log, Reply, Script};
 use std::alloc::Global;
 use tape_edge::Clock;
 use tape_types::{List, Moment, NoMemory};
@@ -36,7 +36,7 @@ pub fn run_script<C: Clock>(
             at: now,
             fate,
         })?;
-        replies.push(reply)?;
+        replies.push(KeptReply::here(reply))?;
     }
     Ok(Log {
         history: List::from_vec(history),

@@ -7,7 +7,7 @@ ghost use Rattle.generation_view.specs.ViewCommands.Texts.{answer_line};
 ghost use Rattle.generation_view.specs.ViewCommands.Lines.{IsLogOf};
 
 use plain_tree::{Answer, Fate, Placed};
-use session_script::{Log, Reply, log_text};
+use session_script::{KeptReply, Log, Reply, log_text};
 use std::alloc::Global;
 use tape_types::{Bytes, List, Moment, NoMemory};
 
@@ -41,7 +41,7 @@ fn log_of(alloc: Global, answer: Answer) -> Result<Log, NoMemory>
     let mut history = List::new(alloc);
     history.push(first_call())?;
     let mut replies = List::new(alloc);
-    replies.push(Reply::Answer(answer))?;
+    replies.push(KeptReply::here(Reply::Answer(answer)))?;
     Ok(Log {
         history,
         replies,

@@ -1,18 +1,16 @@
 //! Replies that are handed out.
 
-ghost use Rattle.std.specs.Prelude.{◌≡◌, ◌≢◌, ◌<◌, ◌≤◌, ℕ, List, [], ◌∷◌, None, Some, IfNone, IfSome, MatchOption};
+ghost use Rattle.std.specs.Prelude.{◌≡◌, ◌<◌, ◌≤◌, ℕ, List, [], ◌∷◌, None, Some, IfNone, IfSome, MatchOption};
 ghost use Rattle.std.specs.Prelude.{length, slice_get};
-ghost use Rattle.plain_tree.specs.declared.calls.Answer.{Answer as Told};
-ghost use Rattle.plain_tree.specs.declared.calls.Answer.TheVariants as the_answers;
-ghost use Rattle.session_script.specs.declared.logs.Reply.TheVariants as the_replies;
 ghost use Rattle.promises.specs.ServingPromise.Marks.{phase, waits};
 ghost use Rattle.event_journal.specs.Placements.{there};
 ghost use Rattle.waiting_reads.specs.Waiting.{for_others};
 ghost use Rattle.volume_state.specs.CallLaws.Handing.{HandsOut};
-ghost use Rattle.volume_core.specs.VolumeSteps.Handed.{CanHand};
+ghost use Rattle.volume_core.specs.VolumeSteps.Handed.{CanHand, IsApart, IsApartAt};
 ghost use Rattle.volume_core.specs.VolumeSteps.Seen.{seen_parts};
 
 use crate::volume_steps::parts::Parts;
+use event_journal::Placements;
 use plain_tree::Answer;
 use session_script::Reply;
 use tape_drive::Drive;
@@ -42,7 +40,10 @@ impl<D: Drive> Parts<D> {
         ensures none { IfNone result (self.new ≡ self.old) }
         ensures others { self.new ≡ record self.old { reads = self.new.reads } }
     {
-        let plain = plain_copy(self.placements.reply(ticket)?);
+        if !self.placements.has_reply(ticket) {
+            return None;
+        }
+        let plain = plain_reply(&self.placements, ticket);
         let kept = self.reads.hand(ticket);
         match plain {
             Some(reply) => Some(reply),
@@ -54,10 +55,22 @@ impl<D: Drive> Parts<D> {
     }
 }
 
+/// A copy of the reply at a place, where it holds no bytes.
+#[tactic(auto, using(crate::proofs::VolumeSteps::HandLemmas::copied_apart))]
+fn plain_reply(placements: &Placements, ticket: u64) -> Option<Reply>
+    ensures some { IfSome result (λ r. slice_get placements.now.replies ticket ≡ Some (Some r)) }
+    ensures none { IfNone result (IsApartAt ticket placements.now.replies) }
+{
+    match placements.reply(ticket) {
+        Some(reply) => plain_copy(reply),
+        None => None,
+    }
+}
+
 /// A copy of a reply that holds no bytes.
 fn plain_copy(reply: &Reply) -> Option<Reply>
     ensures some { IfSome result (λ r. r ≡ reply.now) }
-    ensures none { IfNone result ((a : Told) × (reply.now ≡ the_replies.Answer a) × (a ≢ the_answers.Synced)) }
+    ensures none { IfNone result (IsApart reply.now) }
 {
     match reply {
         Reply::Answer(answer) => match answer {

@@ -1,7 +1,6 @@
 use Rattle.std.proofs.Common.{◌++◌, ◌∷◌, [], List, ap, ◌∙◌}
 use Rattle.plain_tree.specs.declared.calls.Placed.{Placed}
 use Rattle.session_script.specs.declared.logs.Reply.{Reply}
-use Rattle.session_script.specs.declared.logs.Reply.TheVariants as replies
 use Rattle.generation_view.proofs.view_commands.answers.log_of.Goals as goal
 
 pub returns : goal.returns
@@ -10,5 +9,6 @@ returns c = record {
   history = c.in_ok-push.ensures.ok ∙ ap (λ (l : List Placed). l ++ c.first_call.result ∷ []) c.new-history.ensures;
   who = c.first_call.ensures.who;
   nth = c.first_call.ensures.nth;
-  replied = c.in_ok-push-2.ensures.ok ∙ ap (λ (l : List Reply). l ++ replies.Answer c.args.answer ∷ []) c.new-replies.ensures;
+  replied = c.in_ok-push-2.ensures.ok ∙ ap (λ (l : List Reply). l ++ c.here.result ∷ []) c.new-replies.ensures
+      ∙ ap (λ (r : Reply). r ∷ []) c.here.ensures;
 }
