@@ -1,4 +1,4 @@
--- What of a desk may go to another thread, or be shared with one, over a drive and a clock that may.
+-- What of a desk may go to another thread, or be shared with one, over a drive, a clock and a sink that may.
 use denote.RattleType.{RattleType}
 use denote.Param.Send.{IsSend, IsSync, sendable, view_send, view_sync}
 use denote.Param.SendFields.{declared_send, declared_sync}
@@ -6,7 +6,9 @@ use denote.Struct.Record.{declared}
 use Rattle.std.proofs.Crossing.{crosses}
 use Rattle.tape_drive.specs.declared.drive.Drive as drives
 use Rattle.tape_edge.specs.declared.traits.Clock as clocks
+use Rattle.tape_edge.specs.declared.traits.Sink as sinks
 use Rattle.block_cache.proofs.Crossing.{cache_send}
+use Rattle.line_printer.proofs.Crossing.{printer_send}
 use Rattle.held_volume.specs.contracts.stocks.Stock as stocks
 use Rattle.event_journal.specs.contracts.placements.Placements as placements
 use Rattle.waiting_reads.specs.contracts.readings.Readings as readings
@@ -84,12 +86,17 @@ module _ (D C : RattleType) (d : drives.Ghosts D.Denot) (c : clocks.Ghosts C.Den
     ),
   ))
 
-  shelf_send : IsSend (shelves.the_row D C d c)
-  shelf_send = view_send _ _ _ _ _ (declared_send (declared (shelf.struct D C d c) (shelf.the_propositions D.Denot C.Denot)) (search volume_send depth 60 fits 100000, tt))
+module _ (D C K : RattleType) (d : drives.Ghosts D.Denot) (c : clocks.Ghosts C.Denot) (k : sinks.Ghosts K.Denot)
+    (s : IsSend D) (t : IsSend C) (u : IsSend K) where
+  shelf_send : IsSend (shelves.the_row D C K d c k)
+  shelf_send = view_send _ _ _ _ _ (declared_send (declared (shelf.struct D C K d c k) (shelf.the_propositions D.Denot C.Denot K.Denot)) (
+    search volume_send depth 60 fits 100000,
+    (search printer_send depth 60 fits 100000, tt),
+  ))
 
-  -- a pass of a desk may go to another thread, over a drive and a clock that may
-  pub pass_send : IsSend (passes.the_row D C d c)
-  pass_send = view_send _ _ _ _ _ (declared_send (declared (pass.struct D C d c) (pass.the_propositions D.Denot C.Denot)) (
+  -- a pass of a desk may go to another thread, over a drive, a clock and a sink that may
+  pub pass_send : IsSend (passes.the_row D C K d c k)
+  pass_send = view_send _ _ _ _ _ (declared_send (declared (pass.struct D C K d c k) (pass.the_propositions D.Denot C.Denot K.Denot)) (
     search (crossing.pass_send, shelf_send, crosses, sendable) depth 60 fits 100000,
     (
       search (crosses, sendable) depth 60 fits 100000,
@@ -97,7 +104,7 @@ module _ (D C : RattleType) (d : drives.Ghosts D.Denot) (c : clocks.Ghosts C.Den
     ),
   ))
 
-  -- a desk may be shared with another thread, over a drive and a clock that may
-  pub desk_sync : IsSync (desks.the_row D C d c)
-  desk_sync = view_sync _ _ _ _ _ (declared_sync (declared (desk.struct D C d c) (desk.the_propositions D.Denot C.Denot))
+  -- a desk may be shared with another thread, over a drive, a clock and a sink that may
+  pub desk_sync : IsSync (desks.the_row D C K d c k)
+  desk_sync = view_sync _ _ _ _ _ (declared_sync (declared (desk.struct D C K d c k) (desk.the_propositions D.Denot C.Denot K.Denot))
       (search (crossing.lock_sync, shelf_send, crosses, sendable) depth 60 fits 100000, tt))

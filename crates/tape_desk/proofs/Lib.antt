@@ -1,5 +1,7 @@
 mod Entered
+mod HereLemmas
 mod Making
+mod Prints
 pub mod Shelved
 mod Taken
 pub mod Crossing

@@ -9,7 +9,6 @@ use Rattle.turn_lock.specs.Sums.{times}
 use Rattle.turn_lock.specs.Histories.{Sees, own_entries}
 use Rattle.turn_lock.proofs.Callers.{own_of_one}
 use Rattle.promises.specs.ServingPromise.Marks.{kinds_of}
-use Rattle.promises.specs.declared.serving_promise.marks.MarkKind.{MarkKind}
 use Rattle.promises.specs.declared.serving_promise.marks.Mark.{Mark}
 
 -- the session of a mark

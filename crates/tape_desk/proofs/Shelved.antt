@@ -1,15 +1,16 @@
 -- What is promised of a volume stays so over each of its calls, and the call's marks are those of its session.
-use Rattle.std.specs.Prelude.{◌≡◌, ℕ, List, [], ◌∷◌, ◌++◌, length, map, Option}
-use Rattle.std.proofs.Common.{refl, sym, ap, ◌∙◌, subst, arith}
+use Rattle.std.specs.Prelude.{◌≡◌, ℕ, List, [], ◌∷◌, ◌++◌, length, map, slice_get, Option, Some}
+use Rattle.std.proofs.Common.{refl, sym, ap, ◌∙◌, subst, arith, append-nil}
 use Rattle.std.proofs.lemmas.List.{length_push}
 use Rattle.tape_drive.specs.declared.drive.Drive.{Ghosts}
+use Rattle.tape_edge.specs.declared.traits.Sink as sinks
 use Rattle.plain_tree.specs.declared.calls.Fate.{Fate}
 use Rattle.session_script.specs.declared.logs.Reply.{Reply}
 use Rattle.promises.specs.ServingPromise.Ends.{begun}
 use Rattle.promises.specs.ServingPromise.Marks.{draining, mark, marks_of_drain, marks_of_submit, marks_of_turn, phase, waits}
 use Rattle.promises.specs.ServingPromise.Meanings.{cartridges}
 use Rattle.promises.specs.ServingPromise.Served.{Drive, IsServed, View}
-use Rattle.promises.specs.ServingPromise.Steps.{DrainsOnce, OnlyAnswers, Turns}
+use Rattle.promises.specs.ServingPromise.Steps.{DrainsOnce, KeepsReplies, OnlyAnswers, Turns}
 use Rattle.promises.specs.ServingPromise.Submits.{CanSubmit, Places, Submits}
 use Rattle.promises.specs.declared.serving_promise.answers.Drained.{Drained}
 use Rattle.promises.specs.declared.serving_promise.answers.Drained.TheVariants as drained
@@ -21,8 +22,13 @@ use Rattle.promises.specs.OrderLaws.Kept.{seen}
 use Rattle.run_laws.specs.LogLaws.Acts.{IsGone, Moves}
 use Rattle.run_laws.specs.LogLaws.Laws.{LogsGoOn}
 use Rattle.run_laws.specs.LogLaws.Logged.{IsLogged}
+use Rattle.promises.specs.declared.serving_promise.marks.MarkKind.{MarkKind}
+use Rattle.line_printer.specs.Printing.{IsOver, PrinterView}
+use Rattle.tape_desk.specs.Held.{HasAdded, HeldView}
+use Rattle.tape_desk.specs.Printed.{IsTakenTo}
 use Rattle.tape_desk.specs.Promised.{IsPromised}
 use Rattle.tape_desk.specs.Turns.{kinds_of_drain, kinds_of_submit, kinds_of_turn}
+use Rattle.tape_desk.proofs.Prints.{stands_in_front, taken_stays}
 
 -- ---- the marks of an answer
 
@@ -85,6 +91,44 @@ module _ {D : Type 0} (old new : View D) (count : length old.replies ≡ length 
   drained_count most before now who drained.More s = answered s.answered.3
   drained_count most before now who (drained.Fault counts) s = placed s.answered.1
 
+-- ---- what was printed
+
+module _ {D K : Type 0} (sink : sinks.Ghosts K) (printer : PrinterView K) (old new : View D)
+    (count : length old.replies ≡ length old.history) (taken : IsTakenTo sink old.history old.replies printer) where
+  abbrev Taken : Type 0
+  Taken = IsTakenTo sink new.history new.replies printer
+
+  behind : {who nth : ℕ} {fate : Fate} {reply : Option Reply} → Places old new who nth fate reply → Taken
+  behind {reply = reply} p = taken_stays sink printer old.history new.history (p.placed ∷ []) old.replies new.replies count p.history
+      (λ k t at. subst (λ (l : List (Option Reply)). slice_get l k ≡ Some (Some t)) (sym p.replies)
+      (stands_in_front old.replies (reply ∷ []) k (Some t) at))
+      taken
+
+  still : new.history ≡ old.history → KeepsReplies old new → Taken
+  still same keeps = taken_stays sink printer old.history new.history [] old.replies new.replies count
+      (same ∙ sym (append-nil old.history)) keeps.each taken
+
+  -- what was printed stays so over a submission
+  pub submit_taken : (first now : Drive) (who nth : ℕ) (answer : Submitted) → Submits first now old new who nth answer → Taken
+  submit_taken first now who nth (submitted.Ready reply) s = behind s.placing
+  submit_taken first now who nth (submitted.Wait ticket) s = behind s.placing.1
+  submit_taken first now who nth submitted.Drain s = still s.placing.history record {
+    count = ap length s.placing.replies;
+    each = λ k t at. subst (λ (l : List (Option Reply)). slice_get l k ≡ Some (Some t)) (sym s.placing.replies) at;
+  }
+
+  -- over a turn of a session that waits
+  pub turn_taken : (most : ℕ) (before now : Drive) (who ticket : ℕ) (answer : Turn)
+      → Turns most before now old new who ticket answer → Taken
+  turn_taken most before now who ticket answer s = still s.history s.replies
+
+  -- and over a turn of a session that drains
+  pub drain_taken : (most : ℕ) (before now : Drive) (who : ℕ) (answer : Drained)
+      → DrainsOnce most before now old new who answer → Taken
+  drain_taken most before now who drained.Room s = still s.answered.2.history s.answered.2.replies
+  drain_taken most before now who drained.More s = still s.answered.3.history s.answered.3.replies
+  drain_taken most before now who (drained.Fault counts) s = behind s.answered.1
+
 -- ---- what is promised
 
 -- It is so of a volume of which nothing was asked.
@@ -134,3 +178,21 @@ module _ {D : Type 0} (drive : Ghosts D) (law : LogsGoOn drive cartridges) (who 
     gone = law.moved old new served moves kept.gone;
     count = drained_count old new kept.count drive.MOST (seen drive old.drive) (seen drive new.drive) who answer s;
   }
+
+-- ---- what a call adds
+
+-- what was added to what is inside was added to what is shown of it
+pub added_in : {D K : Type 0} (who : ℕ) (kinds : ℕ → List MarkKind) (inside old new : HeldView D K) → inside ≡ old
+    → HasAdded who (kinds (length inside.volume.history)) inside new → HasAdded who (kinds (length old.volume.history)) old new
+added_in {D} {K} who kinds inside old new is =
+    subst (λ (h : HeldView D K). HasAdded who (kinds (length h.volume.history)) h new) is
+
+-- a call adds these marks, and what stays stays
+pub has_added : {D K : Type 0} (who : ℕ) (kinds : ℕ → List MarkKind) (inside old new : HeldView D K) → inside ≡ old
+    → new.volume.marks ≡ inside.volume.marks ++ map (mark who) (kinds (length inside.volume.history))
+    → new.volume.fixed ≡ inside.volume.fixed → IsOver inside.printer new.printer
+    → HasAdded who (kinds (length old.volume.history)) old new
+has_added who kinds inside old new is more stays over = added_in who kinds inside old new is record {
+  marks = more;
+  constants = λ i. record { volume = stays i; first = over.first i; quiet = over.quiet i };
+}

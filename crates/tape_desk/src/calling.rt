@@ -8,13 +8,12 @@ ghost use Rattle.tape_desk.specs.Turns.{CanPlace, GoesOn, IsMade, IsOwn};
 ghost use Rattle.tape_desk.specs.Turns.{kinds_of_drain, kinds_of_submit, kinds_of_turn, kinds_of_wait};
 
 use crate::pass::DeskPass;
-use crate::shelf::Shelf;
+use crate::shelf::BoxedShelf;
 use promises::serving_promise::{Drained, Submitted, Turn};
-use run_laws::log_laws::logs_go_on;
 use session_script::Reply;
 use std::sync::Wait;
 use tape_drive::Drive;
-use tape_edge::{Clock, Gate};
+use tape_edge::{Clock, Gate, Sink};
 use turn_lock::{Pass, TurnLock};
 
 /// The turns of a call. The session passes the gate before each of them.
@@ -39,10 +38,10 @@ impl<'a, G: Gate> Turns<'a, G> {
 }
 
 /// One turn, in which the session's next call is placed or put off.
-fn submit<R: Wait, D: Drive, C: Clock>(
-    lock: &TurnLock<Shelf<D, C>>,
+fn submit<R: Wait, D: Drive, C: Clock, K: Sink>(
+    lock: &TurnLock<BoxedShelf<D, C, K>>,
     rt: &R,
-    pass: &mut Pass<Shelf<D, C>>,
+    pass: &mut Pass<BoxedShelf<D, C, K>>,
     who: u16,
     nth: u32,
 ) -> Submitted
@@ -51,18 +50,17 @@ fn submit<R: Wait, D: Drive, C: Clock>(
     requires can { CanPlace who nth pass.old }
     ensures { (here : ℕ) × GoesOn who (kinds_of_submit here result) pass.old pass.new }
 {
-    logs_go_on::<D>();
-    let Shelf { mut volume } = lock.enter(rt, pass);
-    let answer = volume.submit(who, nth);
-    lock.leave(pass, Shelf { volume });
+    let mut held = lock.enter(rt, pass);
+    let answer = held.shelf.submit(who, nth);
+    lock.leave(pass, held);
     answer
 }
 
 /// One turn of a session that waits for the reply of a place.
-fn turn<R: Wait, D: Drive, C: Clock>(
-    lock: &TurnLock<Shelf<D, C>>,
+fn turn<R: Wait, D: Drive, C: Clock, K: Sink>(
+    lock: &TurnLock<BoxedShelf<D, C, K>>,
     rt: &R,
-    pass: &mut Pass<Shelf<D, C>>,
+    pass: &mut Pass<BoxedShelf<D, C, K>>,
     who: u16,
     ticket: u64,
 ) -> Turn
@@ -71,18 +69,17 @@ fn turn<R: Wait, D: Drive, C: Clock>(
     requires waits { phase who pass.old.seen ≡ waits ticket }
     ensures { GoesOn who (kinds_of_turn ticket result) pass.old pass.new }
 {
-    logs_go_on::<D>();
-    let Shelf { mut volume } = lock.enter(rt, pass);
-    let answer = volume.turn(ticket);
-    lock.leave(pass, Shelf { volume });
+    let mut held = lock.enter(rt, pass);
+    let answer = held.shelf.turn(who, ticket);
+    lock.leave(pass, held);
     answer
 }
 
 /// One turn of a session that drains.
-fn drain_turn<R: Wait, D: Drive, C: Clock>(
-    lock: &TurnLock<Shelf<D, C>>,
+fn drain_turn<R: Wait, D: Drive, C: Clock, K: Sink>(
+    lock: &TurnLock<BoxedShelf<D, C, K>>,
     rt: &R,
-    pass: &mut Pass<Shelf<D, C>>,
+    pass: &mut Pass<BoxedShelf<D, C, K>>,
     who: u16,
 ) -> Drained
     requires of { pass.old.lock ≡ lock.now }
@@ -90,18 +87,17 @@ fn drain_turn<R: Wait, D: Drive, C: Clock>(
     requires drains { phase who pass.old.seen ≡ draining }
     ensures { (here : ℕ) × GoesOn who (kinds_of_drain here result) pass.old pass.new }
 {
-    logs_go_on::<D>();
-    let Shelf { mut volume } = lock.enter(rt, pass);
-    let answer = volume.drain_turn(who);
-    lock.leave(pass, Shelf { volume });
+    let mut held = lock.enter(rt, pass);
+    let answer = held.shelf.drain_turn(who);
+    lock.leave(pass, held);
     answer
 }
 
 /// Takes turns until the reply of a place is there.
-fn await_reply<R: Wait, G: Gate, D: Drive, C: Clock>(
-    lock: &TurnLock<Shelf<D, C>>,
+fn await_reply<R: Wait, G: Gate, D: Drive, C: Clock, K: Sink>(
+    lock: &TurnLock<BoxedShelf<D, C, K>>,
     rt: &R,
-    pass: &mut Pass<Shelf<D, C>>,
+    pass: &mut Pass<BoxedShelf<D, C, K>>,
     turns: &mut Turns<'_, G>,
     ticket: u64,
 ) -> Reply
@@ -121,10 +117,10 @@ fn await_reply<R: Wait, G: Gate, D: Drive, C: Clock>(
 }
 
 /// Takes turns until there is room for the session's write, or the reply is there.
-fn await_room<R: Wait, G: Gate, D: Drive, C: Clock>(
-    lock: &TurnLock<Shelf<D, C>>,
+fn await_room<R: Wait, G: Gate, D: Drive, C: Clock, K: Sink>(
+    lock: &TurnLock<BoxedShelf<D, C, K>>,
     rt: &R,
-    pass: &mut Pass<Shelf<D, C>>,
+    pass: &mut Pass<BoxedShelf<D, C, K>>,
     turns: &mut Turns<'_, G>,
 ) -> Option<Reply>
     requires of { pass.old.lock ≡ lock.now }
@@ -145,10 +141,10 @@ fn await_room<R: Wait, G: Gate, D: Drive, C: Clock>(
 }
 
 /// Places the session's next call, and takes turns until its reply is there.
-fn make<R: Wait, G: Gate, D: Drive, C: Clock>(
-    lock: &TurnLock<Shelf<D, C>>,
+fn make<R: Wait, G: Gate, D: Drive, C: Clock, K: Sink>(
+    lock: &TurnLock<BoxedShelf<D, C, K>>,
     rt: &R,
-    pass: &mut Pass<Shelf<D, C>>,
+    pass: &mut Pass<BoxedShelf<D, C, K>>,
     turns: &mut Turns<'_, G>,
 ) -> Reply
     requires of { pass.old.lock ≡ lock.now }
@@ -172,10 +168,10 @@ fn make<R: Wait, G: Gate, D: Drive, C: Clock>(
 }
 
 /// Makes the session's next call.
-pub fn call<R: Wait, G: Gate, D: Drive, C: Clock>(
-    lock: &TurnLock<Shelf<D, C>>,
+pub fn call<R: Wait, G: Gate, D: Drive, C: Clock, K: Sink>(
+    lock: &TurnLock<BoxedShelf<D, C, K>>,
     rt: &R,
-    pass: &mut DeskPass<D, C>,
+    pass: &mut DeskPass<D, C, K>,
     gate: &G,
 ) -> Reply
     requires of { pass.old.lock ≡ lock.now }

@@ -5,24 +5,21 @@ ghost use Rattle.session_script.specs.Sessions.{greatest_session};
 ghost use Rattle.promises.specs.ServingPromise.Marks.{NothingWaits};
 ghost use Rattle.tape_desk.specs.Gathering.{IsPassOf, TakesIn};
 ghost use Rattle.tape_desk.specs.Passes.{AreAll, ArePartsOf};
-ghost use Rattle.tape_desk.specs.Promised.{IsPromised};
 
 use crate::pass::DeskPass;
-use crate::shelf::Shelf;
+use crate::shelf::{BoxedShelf, Shelf};
 use tape_drive::Drive;
-use tape_edge::Clock;
+use tape_edge::{Clock, Sink};
 use turn_lock::{Pass, TurnLock};
-use volume_core::Volume;
 
-/// The volume behind a lock, once all passes were handed in.
-pub fn gather<D: Drive, C: Clock>(
-    lock: TurnLock<Shelf<D, C>>,
-    passes: Vec<DeskPass<D, C>>,
-) -> Volume<D, C>
+/// What a lock holds, once all passes were handed in.
+pub fn gather<D: Drive, C: Clock, K: Sink>(
+    lock: TurnLock<BoxedShelf<D, C, K>>,
+    passes: Vec<DeskPass<D, C, K>>,
+) -> Shelf<D, C, K>
     requires passes { AreAll lock passes.items }
     ensures parts { ArePartsOf passes.items result }
-    ensures nothing { NothingWaits (greatest_session result.fixed.script) result.marks }
-    ensures promised { IsPromised D.Drive result }
+    ensures nothing { NothingWaits (greatest_session result.volume.fixed.script) result.volume.marks }
 {
     let mut passes = passes;
     let Some(last) = passes.pop() else {
@@ -32,15 +29,18 @@ pub fn gather<D: Drive, C: Clock>(
     while let Some(next) = passes.pop() {
         take_in(&lock, &mut whole, next);
     }
-    let Shelf { volume } = lock.close(whole);
-    volume
+    let BoxedShelf { shelf: boxed } = lock.close(whole);
+    let shelf = Box::into_inner(boxed);
+    // What is kept of a shelf holds of its volume.
+    let Shelf { volume, printer } = shelf;
+    Shelf { volume, printer }
 }
 
 /// Joins a session's pass to those that were taken in before.
-fn take_in<D: Drive, C: Clock>(
-    lock: &TurnLock<Shelf<D, C>>,
-    whole: &mut Pass<Shelf<D, C>>,
-    next: DeskPass<D, C>,
+fn take_in<D: Drive, C: Clock, K: Sink>(
+    lock: &TurnLock<BoxedShelf<D, C, K>>,
+    whole: &mut Pass<BoxedShelf<D, C, K>>,
+    next: DeskPass<D, C, K>,
 )
     requires of { (whole.old.lock ≡ lock.now) × (next.lock ≡ lock.now) }
     requires out { whole.old.in_turn ≡ false }
@@ -50,7 +50,7 @@ fn take_in<D: Drive, C: Clock>(
 }
 
 /// The lock's pass in a session's.
-fn into_pass<D: Drive, C: Clock>(next: DeskPass<D, C>) -> Pass<Shelf<D, C>>
+fn into_pass<D: Drive, C: Clock, K: Sink>(next: DeskPass<D, C, K>) -> Pass<BoxedShelf<D, C, K>>
     ensures { IsPassOf next result }
 {
     let DeskPass { pass, .. } = next;

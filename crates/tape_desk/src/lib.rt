@@ -9,7 +9,9 @@ mod closing;
 mod desk;
 mod opening;
 mod pass;
+mod printing;
 mod shelf;
 
 pub use desk::Desk;
 pub use pass::DeskPass;
+pub use shelf::Shelf;

@@ -3,78 +3,75 @@
 ghost use Rattle.std.specs.Prelude.{◌≡◌, ◌≤◌, ◌<◌, ◌∷◌, [], length, vec_capacity, IfOk, IfErr, IfSome, Some};
 ghost use Rattle.session_script.specs.Sessions.{greatest_session};
 ghost use Rattle.promises.specs.ServingPromise.Ends.{begun};
-ghost use Rattle.promises.specs.ServingPromise.Served.{Fixed};
 ghost use Rattle.tape_desk.specs.Dealing.{AreCounts, CanBegin, CanDeal};
+ghost use Rattle.tape_desk.specs.Held.{Constants, constants};
 ghost use Rattle.tape_desk.specs.Passes.{AreDealt, view_of};
 
 use crate::pass::DeskPass;
-use crate::shelf::Shelf;
-use run_laws::log_laws::logs_go_on;
+use crate::shelf::{BoxedShelf, Shelf};
 use std::alloc::Global;
 use tape_drive::Drive;
-use tape_edge::Clock;
+use tape_edge::{Clock, Sink};
 use turn_lock::{Pass, TurnLock};
-use volume_core::Volume;
 
 /// A lock around a volume of which nothing was asked, and the passes of its sessions, in order.
-pub fn open<D: Drive, C: Clock>(
+pub fn open<D: Drive, C: Clock, K: Sink>(
     alloc: Global,
-    volume: Volume<D, C>,
+    shelf: Shelf<D, C, K>,
     sessions: u16,
-) -> Result<(TurnLock<Shelf<D, C>>, Vec<DeskPass<D, C>>), Volume<D, C>>
+) -> Result<(TurnLock<BoxedShelf<D, C, K>>, Vec<DeskPass<D, C, K>>), Shelf<D, C, K>>
     requires some { 1 ≤ sessions }
-    requires sessions { sessions ≡ greatest_session volume.fixed.script }
-    requires fresh { volume ≡ begun volume.fixed volume.next }
-    ensures ok { IfOk result (λ r. AreDealt r.0 sessions volume.fixed r.1.items) }
-    ensures err { IfErr result (λ v. v ≡ volume) }
+    requires sessions { sessions ≡ greatest_session shelf.volume.fixed.script }
+    requires fresh { shelf.volume ≡ begun shelf.volume.fixed shelf.volume.next }
+    ensures ok { IfOk result (λ r. AreDealt r.0 sessions (constants shelf) r.1.items) }
+    ensures err { IfErr result (λ s. s ≡ shelf) }
 {
-    let Some(counts) = counts_of(alloc, &volume, sessions) else {
-        return Err(volume);
+    let Some(counts) = counts_of(alloc, &shelf, sessions) else {
+        return Err(shelf);
     };
     let Ok(passes) = Vec::with_capacity(alloc, usize::from(sessions)) else {
-        return Err(volume);
+        return Err(shelf);
     };
-    volume.keeps();
-    logs_go_on::<D>();
-    match TurnLock::new(alloc, Shelf { volume }, sessions) {
+    let held = match Box::new(alloc, shelf) {
+        Ok(shelf) => BoxedShelf { shelf },
+        Err(failed) => return Err(failed.value),
+    };
+    match TurnLock::new(alloc, held, sessions) {
         Ok((lock, whole)) => {
             let passes = deal(&lock, whole, sessions, counts.as_slice(), passes);
             Ok((lock, passes))
         }
-        Err(shelf) => {
-            let Shelf { volume } = shelf;
-            Err(volume)
-        }
+        Err(BoxedShelf { shelf }) => Err(Box::into_inner(shelf)),
     }
 }
 
 /// How many calls each session has. The refusal is want of memory.
-fn counts_of<D: Drive, C: Clock>(
+fn counts_of<D: Drive, C: Clock, K: Sink>(
     alloc: Global,
-    volume: &Volume<D, C>,
+    shelf: &Shelf<D, C, K>,
     sessions: u16,
 ) -> Option<Vec<u32>>
-    ensures { IfSome result (λ counts. AreCounts volume.now.fixed sessions counts.items) }
+    ensures { IfSome result (λ counts. AreCounts shelf.now.volume.fixed.script sessions counts.items) }
 {
     let mut counts = Vec::with_capacity(alloc, usize::from(sessions)).ok()?;
     for who in 0..sessions {
-        counts.push_reserved(volume.count(who + 1));
+        counts.push_reserved(shelf.count(who + 1));
     }
     Some(counts)
 }
 
 /// Deals the numbers of a lock to passes of one session each, from the last down.
-fn deal<D: Drive, C: Clock>(
-    lock: &TurnLock<Shelf<D, C>>,
-    whole: Pass<Shelf<D, C>>,
+fn deal<D: Drive, C: Clock, K: Sink>(
+    lock: &TurnLock<BoxedShelf<D, C, K>>,
+    whole: Pass<BoxedShelf<D, C, K>>,
     sessions: u16,
     counts: &[u32],
-    passes: Vec<DeskPass<D, C>>,
-) -> Vec<DeskPass<D, C>>
+    passes: Vec<DeskPass<D, C, K>>,
+) -> Vec<DeskPass<D, C, K>>
     requires some { 1 ≤ sessions }
     requires whole { CanDeal lock.now sessions counts.now whole }
     requires room { (passes.items ≡ []) × (sessions ≤ vec_capacity passes) }
-    ensures { (fixed : Fixed D) → whole.fixed ≡ Some fixed → AreDealt lock.now sessions fixed result.items }
+    ensures { (fixed : Constants D K) → whole.fixed ≡ Some fixed → AreDealt lock.now sessions fixed result.items }
 {
     let mut whole = whole;
     let mut passes = passes;
@@ -89,7 +86,11 @@ fn deal<D: Drive, C: Clock>(
 }
 
 /// The pass of a session that has placed nothing.
-fn begin<D: Drive, C: Clock>(pass: Pass<Shelf<D, C>>, who: u16, count: u32) -> DeskPass<D, C>
+fn begin<D: Drive, C: Clock, K: Sink>(
+    pass: Pass<BoxedShelf<D, C, K>>,
+    who: u16,
+    count: u32,
+) -> DeskPass<D, C, K>
     requires { CanBegin who count pass }
     ensures { result ≡ view_of pass who 0 }
 {

@@ -3,30 +3,30 @@
 ghost use Rattle.std.specs.Prelude.{◌≡◌};
 ghost use Rattle.tape_desk.specs.Passes.{HasCount, IsRested};
 
-use crate::shelf::Shelf;
+use crate::shelf::BoxedShelf;
 use std::marker::Model;
 use tape_drive::Drive;
-use tape_edge::Clock;
+use tape_edge::{Clock, Sink};
 use turn_lock::Pass;
 
 /// What a session makes its calls with. Contracts see which desk it is of, its session, how many calls it has placed,
 /// and what it has seen of the volume's marks.
 #[derive(Drop)]
-pub struct DeskPass<D: Drive, C: Clock> {
-    pub(crate) pass: Pass<Shelf<D, C>>,
+pub struct DeskPass<D: Drive, C: Clock, K: Sink> {
+    pub(crate) pass: Pass<BoxedShelf<D, C, K>>,
     pub(crate) who: u16,
     pub(crate) placed: u32,
     pub(crate) count: u32,
 }
 
-impl<D: Drive, C: Clock> Model for DeskPass<D, C> {
+impl<D: Drive, C: Clock, K: Sink> Model for DeskPass<D, C, K> {
     ghost use Rattle.std.specs.FinMap as fin;
     ghost use Rattle.std.specs.Coded.{codes, coded_list, coded_ℕ};
     ghost use Rattle.plain_tree.specs.Paths.{path_cmp};
     ghost use Rattle.plain_tree.specs.contracts.nodes.Node as node;
     ghost use Rattle.tape_desk.specs.Passes.{DeskView, IsHeld, view_of};
 
-    ghost Value = { DeskView D };
+    ghost Value = { DeskView D K };
 
     ghost coded = { Prim.hlevel (codes, fin.code {R = path_cmp} (coded_list (coded_list coded_ℕ)) node.the_row.coded) };
 
@@ -35,7 +35,7 @@ impl<D: Drive, C: Clock> Model for DeskPass<D, C> {
     ghost invariant = { λ p. IsHeld p.pass p.who p.placed p.count };
 }
 
-impl<D: Drive, C: Clock> DeskPass<D, C> {
+impl<D: Drive, C: Clock, K: Sink> DeskPass<D, C, K> {
     /// Its session.
     pub fn who(&self) -> u16
         ensures { result ≡ self.now.who }

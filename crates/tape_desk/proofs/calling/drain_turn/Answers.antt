@@ -1,27 +1,36 @@
-use Rattle.std.specs.Prelude.{length}
-use Rattle.promises.specs.ServingPromise.Marks.{draining}
-use Rattle.promises.specs.OrderLaws.Kept.{seen}
+use Rattle.std.specs.Prelude.{◌≡◌, length}
+use Rattle.std.proofs.Common.{subst, sym}
+use Rattle.promises.specs.ServingPromise.Marks.{draining, phase}
+use Rattle.tape_desk.specs.Held.{HeldView}
 use Rattle.tape_desk.specs.Turns.{kinds_of_drain}
-use Rattle.tape_desk.proofs.Shelved.{drain_keeps, drain_more}
-use Rattle.tape_desk.proofs.Taken.{adds_own, known_phase, has_gone_on}
+use Rattle.tape_desk.proofs.Shelved.{added_in}
+use Rattle.tape_desk.proofs.Taken.{adds_own, fixed_stays, has_gone_on, known_phase}
 use Rattle.tape_desk.proofs.calling.drain_turn.Goals as goal
 
 pub drain_turn-answer-requires : goal.drain_turn-answer-requires
-drain_turn-answer-requires g c = known_phase c.args.who c.args.pass.now c.requires.own c.enter.result c.volume.inside.volume c.volume.view_is c.enter.ensures.own draining c.requires.drains
+drain_turn-answer-requires g c = subst (λ (h : HeldView g.row.D.Denot g.row.K.Denot). phase c.args.who h.volume.marks ≡ draining) (sym c.deref_mut.ensures.value)
+    (known_phase c.args.who c.args.pass.now c.requires.own c.enter-held.result.shelf.value c.enter-held.ensures.own draining c.requires.drains)
 
-pub invariant_of-leave : goal.invariant_of-leave
-invariant_of-leave g c = drain_keeps g.D.Drive c.logs_go_on.ensures c.args.who c.volume.inside.volume c.drain_turn-answer.new.self c.volume.invariant
-    c.drain_turn-answer.ensures.served c.drain_turn-answer.result (known_phase c.args.who c.args.pass.now c.requires.own c.enter.result c.volume.inside.volume c.volume.view_is c.enter.ensures.own draining c.requires.drains) (c.drain_turn-answer.ensures.drains) c.drain_turn-answer.ensures.moves
+pub leave-requires-clause-fixed : goal.leave-requires-clause-fixed
+leave-requires-clause-fixed g c = fixed_stays c.args.who c.args.pass.now c.requires.own c.enter-held.result.shelf.value c.enter-held.ensures.own (kinds_of_drain (length c.enter-held.result.shelf.value.volume.history) c.drain_turn-answer.result)
+    c.drain_turn-answer.new.self
+    (added_in c.args.who (λ here. kinds_of_drain here c.drain_turn-answer.result) c.deref_mut.result.now c.enter-held.result.shelf.value c.drain_turn-answer.new.self c.deref_mut.ensures.value
+    c.drain_turn-answer.ensures)
+    c.enter-held.new.pass c.enter-held.ensures.pass c.enter-held.ensures.fixed
 
 pub leave-requires-clause-adds : goal.leave-requires-clause-adds
-leave-requires-clause-adds g c = adds_own c.args.who c.args.pass.now c.requires.own c.enter.result c.volume.inside.volume c.volume.view_is c.enter.ensures.own (kinds_of_drain (length c.volume.inside.volume.history) c.drain_turn-answer.result) c.drain_turn-answer.new.self.marks
-    (drain_more c.volume.inside.volume c.drain_turn-answer.new.self c.args.who g.D.Drive.MOST (seen g.D.Drive c.volume.inside.volume.drive) (seen g.D.Drive c.drain_turn-answer.new.self.drive) c.drain_turn-answer.result (c.drain_turn-answer.ensures.drains))
-    c.enter.new.pass c.enter.ensures.pass
+leave-requires-clause-adds g c = adds_own c.args.who c.args.pass.now c.requires.own c.enter-held.result.shelf.value c.enter-held.ensures.own (kinds_of_drain (length c.enter-held.result.shelf.value.volume.history) c.drain_turn-answer.result)
+    c.drain_turn-answer.new.self
+    (added_in c.args.who (λ here. kinds_of_drain here c.drain_turn-answer.result) c.deref_mut.result.now c.enter-held.result.shelf.value c.drain_turn-answer.new.self c.deref_mut.ensures.value
+    c.drain_turn-answer.ensures)
+    c.enter-held.new.pass c.enter-held.ensures.pass
 
 pub returns : goal.returns
 returns g c = (
-  length c.volume.inside.volume.history,
-  has_gone_on c.args.who c.args.pass.now c.requires.own c.enter.result c.volume.inside.volume c.volume.view_is c.enter.ensures.own (kinds_of_drain (length c.volume.inside.volume.history) c.drain_turn-answer.result) c.drain_turn-answer.new.self.marks
-      (drain_more c.volume.inside.volume c.drain_turn-answer.new.self c.args.who g.D.Drive.MOST (seen g.D.Drive c.volume.inside.volume.drive) (seen g.D.Drive c.drain_turn-answer.new.self.drive) c.drain_turn-answer.result (c.drain_turn-answer.ensures.drains))
-      c.enter.new.pass c.enter.ensures.pass c.leave.new.pass c.enter.ensures.sees c.leave.ensures.pass,
+  length c.enter-held.result.shelf.value.volume.history,
+  has_gone_on c.args.who c.args.pass.now c.requires.own c.enter-held.result.shelf.value c.enter-held.ensures.own (kinds_of_drain (length c.enter-held.result.shelf.value.volume.history) c.drain_turn-answer.result)
+      c.drain_turn-answer.new.self
+      (added_in c.args.who (λ here. kinds_of_drain here c.drain_turn-answer.result) c.deref_mut.result.now c.enter-held.result.shelf.value c.drain_turn-answer.new.self c.deref_mut.ensures.value
+      c.drain_turn-answer.ensures)
+      c.enter-held.new.pass c.enter-held.ensures.pass c.leave.new.pass c.enter-held.ensures.sees c.leave.ensures.pass,
 )

@@ -1,6 +1,6 @@
 use Rattle.std.proofs.Common.{arith, ℕ, ◌≡◌, ◌+◌, ◌++◌, ◌∷◌, [], Some, ap, append_assoc, append-nil, length, refl, subst, sym, ◌∙◌}
 use Rattle.std.proofs.lemmas.List.{length_push}
-use Rattle.promises.specs.ServingPromise.Served.{View}
+use Rattle.tape_desk.specs.Held.{HeldView, constants}
 use Rattle.tape_desk.specs.Gathering.{HasGathered}
 use Rattle.tape_desk.proofs.Gathers.{are_parts, first_gathered, lock_is, next_gathered, nothing_waits, still_all}
 use Rattle.tape_desk.proofs.closing.gather.Goals as goal
@@ -45,17 +45,17 @@ loop-next-preserved g c =
 pub returns-clause-parts : goal.returns-clause-parts
 returns-clause-parts g c =
     let none : length c.loop-next.passes.items ≡ 0 = omega (arith, c.in_default-pop.ensures.cases.0) in
-    are_parts g.D.Drive c.args.lock c.args.passes.items c.loop-next.whole c.volume.inside.volume c.requires.passes
+    are_parts g.D.Drive c.args.lock c.args.passes.items c.loop-next.whole (record { volume = c.shelf.inside.volume; printer = c.shelf.inside.printer }) c.requires.passes
     (subst (λ (n : ℕ). HasGathered c.args.lock c.args.passes.items n c.loop-next.whole) none c.loop-next.invariant.1)
-    c.volume.invariant
-    (ap (λ (v : View g.row.D.Denot). v.marks) c.volume.view_is ∙ c.close.ensures.history)
-    (c.close.ensures.fixed ∙ sym (ap (λ (v : View g.row.D.Denot). Some v.fixed) c.volume.view_is))
+    c.shelf.invariant.0
+    (ap (λ (h : HeldView g.row.D.Denot g.row.K.Denot). h.volume.marks) (c.shelf.view_is ∙ c.into_inner-shelf.ensures) ∙ c.close-boxed.ensures.history)
+    (c.close-boxed.ensures.fixed ∙ sym (ap (λ (h : HeldView g.row.D.Denot g.row.K.Denot). Some (constants h)) (c.shelf.view_is ∙ c.into_inner-shelf.ensures)))
 
 pub returns-clause-nothing : goal.returns-clause-nothing
 returns-clause-nothing g c =
     let none : length c.loop-next.passes.items ≡ 0 = omega (arith, c.in_default-pop.ensures.cases.0) in
-    nothing_waits g.D.Drive c.args.lock c.args.passes.items c.loop-next.whole c.volume.inside.volume c.requires.passes
+    nothing_waits g.D.Drive c.args.lock c.args.passes.items c.loop-next.whole (record { volume = c.shelf.inside.volume; printer = c.shelf.inside.printer }) c.requires.passes
     (subst (λ (n : ℕ). HasGathered c.args.lock c.args.passes.items n c.loop-next.whole) none c.loop-next.invariant.1)
-    c.volume.invariant
-    (ap (λ (v : View g.row.D.Denot). v.marks) c.volume.view_is ∙ c.close.ensures.history)
-    (c.close.ensures.fixed ∙ sym (ap (λ (v : View g.row.D.Denot). Some v.fixed) c.volume.view_is))
+    c.shelf.invariant.0
+    (ap (λ (h : HeldView g.row.D.Denot g.row.K.Denot). h.volume.marks) (c.shelf.view_is ∙ c.into_inner-shelf.ensures) ∙ c.close-boxed.ensures.history)
+    (c.close-boxed.ensures.fixed ∙ sym (ap (λ (h : HeldView g.row.D.Denot g.row.K.Denot). Some (constants h)) (c.shelf.view_is ∙ c.into_inner-shelf.ensures)))

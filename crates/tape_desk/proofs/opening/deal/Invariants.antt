@@ -1,4 +1,4 @@
-use Rattle.std.proofs.Common.{◌-◌, ◌≡◌, ◌≤◌, vec_capacity}
+use Rattle.std.proofs.Common.{◌-◌, ◌≤◌, vec_capacity}
 use Rattle.tape_desk.specs.Dealing.{HasDealt}
 use Rattle.tape_desk.proofs.opening.deal.Given as goal
 
