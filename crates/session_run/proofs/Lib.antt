@@ -3,3 +3,4 @@ pub mod Running
 pub mod ServingSteps
 pub mod OwnRuns
 pub mod Whole
+pub mod WholeLog

@@ -27,6 +27,7 @@ use Rattle.promises.specs.declared.serving_promise.contract.Closed.{Closed}
 use Rattle.promises.specs.OrderLaws.Kept.{seen}
 use Rattle.run_laws.specs.Laws.{IsPlayed, IsRun, PlaysAreRuns}
 use Rattle.volume_core.specs.Promised.{LeavesOwnIndexes}
+use Rattle.tape_desk.specs.Held.{HeldView, constants}
 use Rattle.session_run.proofs.OwnRuns.{own_on_top}
 use Rattle.session_run.specs.Ran.{HasRun, IsServedWhole}
 use Rattle.session_run.specs.declared.ran.RanEnd.{RanEnd}
@@ -65,7 +66,7 @@ module _ {D : Type 0} (drive : Ghosts D) (start first : D) (mounted : Mounted) (
   }
 
   -- it has the script and the moment that it was begun with
-  pub whole_on : (served : Served D) → Whole drive start v.fixed.moment v.fixed.script served → Whole drive start moment script served
+  pub whole_on : {K : Type 0} (served : Served D K) → Whole drive start v.fixed.moment v.fixed.script served → Whole drive start moment script served
   whole_on served is = subst (λ (w : View D). Whole drive start w.fixed.moment w.fixed.script served) starts.begins is
 
 -- ---- a volume that was closed
@@ -133,17 +134,27 @@ module _ {D : Type 0} (drive : Ghosts D) (plays : PlaysAreRuns drive) (start : D
     untold = λ held. closes.untold (on.looked.looks.held ∙ held);
   }
 
--- all calls of a run were made
-pub ran_whole : {D : Type 0} (drive : Ghosts D) (old new : View D) (outcome : RanEnd) → outcome ≡ run_ends.Done → HasRun drive old new outcome → (new.fixed ≡ old.fixed) × IsServedWhole drive new
-ran_whole drive old new outcome done has = subst (HasRun drive old new) done has
+-- ---- how a run ended, of a shelf that was opened
+
+module _ {D K : Type 0} (drive : Ghosts D) (old new opened : HeldView D K) (is : opened ≡ new) (outcome : RanEnd)
+    (has : HasRun drive old new outcome) where
+  -- all calls of a run were made
+  pub ran_whole : outcome ≡ run_ends.Done → (constants opened ≡ constants old) × IsServedWhole drive opened.volume
+  ran_whole done =
+      subst (λ (h : HeldView D K). (constants h ≡ constants old) × IsServedWhole drive h.volume) (sym is)
+      (subst (HasRun drive old new) done has)
+
+  -- nothing was asked of the volume, and nothing was printed
+  pub ran_none : outcome ≡ run_ends.NoMemory → opened ≡ old
+  ran_none none = is ∙ subst (HasRun drive old new) none has
 
 -- of the volume as it was begun, which has what no call changes
-pub was_served : {D : Type 0} (drive : Ghosts D) → PlaysAreRuns drive → (start : D) (begun v : View D) (closed : Closed D) (served : Served D)
+pub was_served : {D K : Type 0} (drive : Ghosts D) → PlaysAreRuns drive → (start : D) (begun v : View D) (closed : Closed D) (served : Served D K)
     → served.drive ≡ closed.drive → served.log ≡ Some closed.log → served.end ≡ closed_end closed.outcome closed.steps closed.travel closed.nodes
     → v.fixed ≡ begun.fixed → drive.faults start ≤ 2 ^ 64 - 1 → IsBegun drive start begun.fixed → IsServedWhole drive v
     → Closes cartridges (seen drive v.fixed.first) (seen drive v.drive) (seen drive closed.drive) v closed.drive closed.log closed.outcome closed.steps closed.travel closed.nodes
     → LeavesOwnIndexes drive v closed.drive closed.outcome → Whole drive start begun.fixed.moment begun.fixed.script served
-was_served {D} drive plays start begun v closed served drive_is log_is end_is same range on whole closes own =
+was_served {D} {K} drive plays start begun v closed served drive_is log_is end_is same range on whole closes own =
     subst (λ d. IsWhole drive start d begun.fixed.moment begun.fixed.script served.log served.end) (sym drive_is)
     (subst (λ l. IsWhole drive start closed.drive begun.fixed.moment begun.fixed.script l served.end) (sym log_is)
     (subst (λ e. IsServedSo drive start closed.drive begun.fixed.moment begun.fixed.script closed.log e) (sym end_is)

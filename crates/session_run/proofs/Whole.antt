@@ -13,15 +13,12 @@ use Rattle.session_script.specs.Grammar.{calls_of}
 use Rattle.session_script.specs.Sessions.{HasSessions, greatest_session}
 use Rattle.session_script.specs.declared.scripts.ScriptLine.{ScriptLine}
 use Rattle.tape_drive.specs.declared.drive.Drive.{Ghosts}
+use Rattle.tape_desk.specs.Held.{Constants, HeldView, constants}
 use Rattle.tape_desk.specs.Passes.{AreAll, AreDealt, ArePartsOf, DeskView, IsPartOf, IsRested}
 use Rattle.tape_desk.specs.Promised.{IsPromised}
-use Rattle.tape_desk.proofs.Shelved.{begun_keeps}
-use Rattle.run_laws.specs.LogLaws.Laws.{LogsGoOn}
 use Rattle.promises.specs.ServingPromise.Ends.{begun}
 use Rattle.promises.specs.ServingPromise.Marks.{NothingWaits, idle, phase, place_in}
-use Rattle.promises.specs.ServingPromise.Meanings.{cartridges}
-use Rattle.promises.specs.ServingPromise.Served.{Fixed, IsServed, View, placed_by}
-use Rattle.promises.specs.OrderLaws.Kept.{seen}
+use Rattle.promises.specs.ServingPromise.Served.{View}
 use Rattle.promises.proofs.OrderLaws.Placing.{as_many_places}
 use Rattle.session_run.specs.Ran.{IsDone, IsServedWhole}
 
@@ -75,14 +72,15 @@ interleaved drive v promised has each who = promised.served.orderly.placed.in_or
         omega (arith, none, promised.served.orderly.placed.within who)
 
 -- a session whose pass has placed all its calls
-placed_all : {D : Type 0} (drive : Ghosts D) (v : View D) (p : DeskView D) → IsPromised drive v → IsPartOf p v
-    → IsRested p → IfSome p.fixed (λ f. p.placed ≡ length (calls_of f.script p.who))
-    → length (numbers_of v.history p.who) ≡ length (calls_of v.fixed.script p.who)
-placed_all {D} drive v p promised part rested all =
+placed_all : {D K : Type 0} (drive : Ghosts D) (h : HeldView D K) (p : DeskView D K) → IsPromised drive h.volume
+    → IsPartOf p h → IsRested p → IfSome p.fixed (λ f. p.placed ≡ length (calls_of f.volume.script p.who))
+    → length (numbers_of h.volume.history p.who) ≡ length (calls_of h.volume.fixed.script p.who)
+placed_all {D} {K} drive h p promised part rested all =
     let marks = promised.served.orderly.marks in
-    sym (as_many_places p.who v.history) ∙ sym (ap length (marks.places p.who))
+    sym (as_many_places p.who h.volume.history) ∙ sym (ap length (marks.places p.who))
     ∙ ap (λ kinds. length (filter_map place_in kinds)) part.own ∙ sym rested.placed
-    ∙ subst (λ (o : Option (Fixed D)). IfSome o (λ f. p.placed ≡ length (calls_of f.script p.who))) part.fixed all
+    ∙ subst (λ (o : Option (Constants D K)). IfSome o (λ f. p.placed ≡ length (calls_of f.volume.script p.who)))
+    part.fixed all
 
 -- ---- passes that come back
 
@@ -96,13 +94,13 @@ written_back n new old same is =
     let none : drop (length new) old ≡ [] = drop_of_length-le old (omega (arith, same)) in
     ap (λ l. take n (new ++ l)) none ∙ ap (λ k. take k (new ++ [])) (is ∙ sym same) ∙ take_whole new []
 
-module _ {D : Type 0} (lock : TableId) (n : ℕ) (fixed : Fixed D) (ps qs : List (DeskView D))
+module _ {D K : Type 0} (lock : TableId) (n : ℕ) (fixed : Constants D K) (ps qs : List (DeskView D K))
     (dealt : AreDealt lock n fixed ps) (same : length qs ≡ length ps)
-    (done : (k : ℕ) (p : DeskView D) → k < length ps → IsDone (slice_index_or ps k p) (slice_index_or qs k p)) where
-  locked : (k : ℕ) (p : DeskView D) → k < length ps → (slice_index_or ps k p).lock ≡ lock
+    (done : (k : ℕ) (p : DeskView D K) → k < length ps → IsDone (slice_index_or ps k p) (slice_index_or qs k p)) where
+  locked : (k : ℕ) (p : DeskView D K) → k < length ps → (slice_index_or ps k p).lock ≡ lock
   locked k p lt = (dealt.1 k p lt).lock_is
 
-  who_is : (k : ℕ) (p : DeskView D) → k < length ps → (slice_index_or qs k p).who ≡ k + 1
+  who_is : (k : ℕ) (p : DeskView D K) → k < length ps → (slice_index_or qs k p).who ≡ k + 1
   who_is k p lt = (done k p lt).who ∙ (dealt.1 k p lt).who_is
 
   -- they are all of the desk
@@ -116,51 +114,69 @@ module _ {D : Type 0} (lock : TableId) (n : ℕ) (fixed : Fixed D) (ps qs : List
     ),
   )
 
-  fixed_is : (v : View D) → ArePartsOf qs v → (k : ℕ) (p : DeskView D) → k < length ps → v.fixed ≡ fixed
-  fixed_is v parts k p lt = same_Some v.fixed fixed
+  fixed_is : (h : HeldView D K) → ArePartsOf qs h → (k : ℕ) (p : DeskView D K) → k < length ps → constants h ≡ fixed
+  fixed_is h parts k p lt = same_Some (constants h) fixed
       (sym (parts k p (omega (arith, lt, same))).fixed ∙ (done k p lt).fixed ∙ (dealt.1 k p lt).fixed_is)
 
   -- what the desk gives back at its close
-  pub served_whole : (drive : Ghosts D) (v : View D) → 1 ≤ n → n ≡ greatest_session fixed.script
-      → HasSessions fixed.script → ArePartsOf qs v → NothingWaits (greatest_session v.fixed.script) v.marks
-      → IsPromised drive v → (v.fixed ≡ fixed) × IsServedWhole drive v
-  served_whole drive v some most has parts nothing promised = (
+  pub served_whole : (drive : Ghosts D) (h : HeldView D K) → 1 ≤ n → n ≡ greatest_session fixed.volume.script
+      → HasSessions fixed.volume.script → ArePartsOf qs h
+      → NothingWaits (greatest_session h.volume.fixed.script) h.volume.marks → IsPromised drive h.volume
+      → (constants h ≡ fixed) × IsServedWhole drive h.volume
+  served_whole drive h some most has parts nothing promised = (
     kept,
     record {
       promised = promised;
-      history = interleaved drive v promised (subst (λ (f : Fixed D). HasSessions f.script) (sym kept) has) each;
+      history = interleaved drive h.volume promised
+          (subst (λ (f : Constants D K). HasSessions f.volume.script) (sym kept) has) each;
       nothing = nothing;
     },
   )
     where
-      none : DeskView D
+      none : DeskView D K
       none = record { lock = lock; sessions = 0; who = 0; placed = 0; seen = []; fixed = Some fixed }
 
-      kept : v.fixed ≡ fixed
-      kept = fixed_is v parts 0 none (omega (arith, some, dealt.0))
+      kept : constants h ≡ fixed
+      kept = fixed_is h parts 0 none (omega (arith, some, dealt.0))
 
-      each : (who : ℕ) → 1 ≤ who → who ≤ greatest_session v.fixed.script
-          → length (numbers_of v.history who) ≡ length (calls_of v.fixed.script who)
+      each : (who : ℕ) → 1 ≤ who → who ≤ greatest_session h.volume.fixed.script
+          → length (numbers_of h.volume.history who) ≡ length (calls_of h.volume.fixed.script who)
       each who low high =
           let k : ℕ = who - 1 in
-          let all : greatest_session v.fixed.script ≡ n = ap (λ (f : Fixed D). greatest_session f.script) kept ∙ sym most in
+          let all : greatest_session h.volume.fixed.script ≡ n =
+          ap (λ (f : Constants D K). greatest_session f.volume.script) kept ∙ sym most in
           let lt : k < length ps = omega (arith, low, high, all, dealt.0) in
           let is : (slice_index_or qs k none).who ≡ who = who_is k none lt ∙ omega (arith, low) in
-          subst (λ w. length (numbers_of v.history w) ≡ length (calls_of v.fixed.script w)) is
-          (placed_all drive v (slice_index_or qs k none) promised (parts k none (omega (arith, lt, same)))
+          subst (λ w. length (numbers_of h.volume.history w) ≡ length (calls_of h.volume.fixed.script w)) is
+          (placed_all drive h (slice_index_or qs k none) promised (parts k none (omega (arith, lt, same)))
           (done k none lt).rests (done k none lt).all)
 
 -- ---- a script without a session
 
--- a volume without a session is served whole
-pub none_to_serve : {D : Type 0} (drive : Ghosts D) (v : View D) → LogsGoOn drive cartridges
-    → v ≡ begun v.fixed v.next → IsServed cartridges (seen drive v.fixed.first) (seen drive v.drive) v
-    → HasSessions v.fixed.script → greatest_session v.fixed.script ≡ 0 → IsServedWhole drive v
-none_to_serve {D} drive v law is served has none = record {
-  promised = promised;
-  history = interleaved drive v promised has (λ who low high. absurd (omega (arith, low, high, none)));
-  nothing = λ who low high. ap (λ (w : View D). phase who w.marks) is;
-}
-  where
-    promised : IsPromised drive v
-    promised = begun_keeps drive v law is served
+module _ {D K : Type 0} (drive : Ghosts D) (old opened : HeldView D K) (is : opened ≡ old)
+    (promised : IsPromised drive opened.volume) where
+  -- a volume without a session is served whole
+  pub none_to_serve : old.volume ≡ begun old.volume.fixed old.volume.next → HasSessions opened.volume.fixed.script
+      → greatest_session old.volume.fixed.script ≡ 0
+      → (constants opened ≡ constants old) × IsServedWhole drive opened.volume
+  none_to_serve fresh has none = (
+    ap constants is,
+    record {
+      promised = promised;
+      history = interleaved drive opened.volume promised has (λ who low high. absurd (omega (arith, low, high, most)));
+      nothing = λ who low high. ap (λ (w : View D). phase who w.marks) begins;
+    },
+  )
+    where
+      begins : opened.volume ≡ begun opened.volume.fixed opened.volume.next
+      begins = subst (λ (h : HeldView D K). h.volume ≡ begun h.volume.fixed h.volume.next) (sym is) fresh
+
+      most : greatest_session opened.volume.fixed.script ≡ 0
+      most = subst (λ (h : HeldView D K). greatest_session h.volume.fixed.script ≡ 0) (sym is) none
+
+-- of a shelf that was opened
+pub opened_whole : {D K : Type 0} (drive : Ghosts D) (old new opened : HeldView D K) → opened ≡ new
+    → (constants new ≡ constants old) × IsServedWhole drive new.volume
+    → (constants opened ≡ constants old) × IsServedWhole drive opened.volume
+opened_whole {D} {K} drive old new opened is whole =
+    subst (λ (h : HeldView D K). (constants h ≡ constants old) × IsServedWhole drive h.volume) (sym is) whole

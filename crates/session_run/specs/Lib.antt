@@ -1,3 +1,4 @@
+pub mod Printed
 pub mod Ran
 pub mod Serving
 pub mod Timed

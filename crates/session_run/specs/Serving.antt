@@ -132,7 +132,7 @@ IsWhole drive start now at script (Some log) end = IsServedSo drive start now at
 
 -- What is promised of a drive as it was handed in, of the one moment of its clock, where it has one, and of a script.
 -- Without a log no call was made, and the drive was only looked at.
-abbrev pub Whole : {D : Type 0} → Ghosts D → (start : D) → Option Moment → List ScriptLine → Served D → Type 0
+abbrev pub Whole : {D K : Type 0} → Ghosts D → (start : D) → Option Moment → List ScriptLine → Served D K → Type 0
 Whole drive start at script served = IsWhole drive start served.drive at script served.log served.end
 
 -- ---- on the way

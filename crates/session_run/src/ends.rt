@@ -1,13 +1,18 @@
 //! How the serving of a cartridge ends, and the line that tells it.
 
-ghost use Rattle.std.specs.Prelude.{◌≡◌, Some, IfOk};
+ghost use Rattle.std.specs.Prelude.{◌≡◌, ◌≢◌, ◌++◌, ℕ, [], List, codes, decimal, Some, IfOk};
+ghost use Rattle.cartridge_meaning.specs.declared.errors.MountErr.{MountErr as MountFault};
+ghost use Rattle.line_printer.specs.Printing.{HasTaken, IsOver};
 ghost use Rattle.session_run.specs.Serving.{closed_end, end_line, mount_end};
+ghost use Rattle.session_run.specs.declared.ends.ServeEnd.TheVariants as ends;
 
 use cartridge_meaning::MountErr;
 use commands::basic_commands::{bytes_of, drive_text, full_text, mount_text};
+use line_printer::Printer;
 use promises::serving_promise::{CloseEnd, Closed};
 use session_script::Log;
 use std::alloc::Global;
+use tape_edge::Sink;
 use tape_types::{Bytes, NoMemory, Twin};
 
 /// How the serving of a cartridge ended.
@@ -37,8 +42,10 @@ pub enum ServeEnd {
 }
 
 /// What the serving of a cartridge gives back.
-pub struct Served<D> {
+pub struct Served<D, K: Sink> {
     pub drive: D,
+    /// What has printed the log, where there is one.
+    pub printer: Printer<K>,
     /// What was done, wherever the calls were made.
     pub log: Option<Log>,
     pub end: ServeEnd,
@@ -60,6 +67,69 @@ pub fn end_line(alloc: Global, end: &ServeEnd) -> Result<Bytes, NoMemory>
         ServeEnd::Full { need, limit } => full_text(alloc, need, limit),
         ServeEnd::NoMemory => Ok(bytes_of(format!(in alloc; "memory\n")?)),
     }
+}
+
+/// Prints the line of an end behind the log. It takes no memory.
+pub fn print_end<K: Sink>(printer: &mut Printer<K>, end: &ServeEnd)
+    requires mounted { (error : MountFault) → end.now ≢ ends.Volume error }
+    ensures over { IsOver printer.old printer.new }
+    ensures none { printer.new.waits ≡ [] }
+    ensures text { (text : List ℕ) → HasTaken K.Sink printer.old text
+        → HasTaken K.Sink printer.new (text ++ end_line end.now) }
+{
+    put_end(printer, end);
+    printer.send();
+}
+
+/// Puts the line of an end behind the log.
+fn put_end<K: Sink>(printer: &mut Printer<K>, end: &ServeEnd)
+    requires mounted { (error : MountFault) → end.now ≢ ends.Volume error }
+    ensures over { IsOver printer.old printer.new }
+    ensures text { (text : List ℕ) → HasTaken K.Sink printer.old text
+        → HasTaken K.Sink printer.new (text ++ end_line end.now) }
+{
+    match *end {
+        ServeEnd::Done {
+            generation,
+            steps,
+            travel,
+            nodes: _,
+        } => {
+            print_word(printer, b"closed ", generation);
+            print_word(printer, b" ", steps);
+            print_last(printer, b" ", travel);
+        }
+        ServeEnd::Volume(_) => unreachable!(),
+        ServeEnd::Drive(counts) => {
+            print_word(printer, b"drive ", counts.before);
+            print_last(printer, b" ", counts.after);
+        }
+        ServeEnd::Full { need, limit } => {
+            print_word(printer, b"full ", need);
+            print_last(printer, b" ", limit);
+        }
+        ServeEnd::NoMemory => printer.put(b"memory\n"),
+    }
+}
+
+/// Prints a number behind a word.
+fn print_word<K: Sink>(printer: &mut Printer<K>, word: &[u8], number: u64)
+    ensures over { IsOver printer.old printer.new }
+    ensures text { (text : List ℕ) → HasTaken K.Sink printer.old text
+        → HasTaken K.Sink printer.new (text ++ (word.now ++ decimal number)) }
+{
+    printer.put(word);
+    printer.put_number(number);
+}
+
+/// Prints a number behind a word, and ends the line.
+fn print_last<K: Sink>(printer: &mut Printer<K>, word: &[u8], number: u64)
+    ensures over { IsOver printer.old printer.new }
+    ensures text { (text : List ℕ) → HasTaken K.Sink printer.old text
+        → HasTaken K.Sink printer.new (text ++ (word.now ++ (decimal number ++ codes "\n"))) }
+{
+    print_word(printer, word, number);
+    printer.put(b"\n");
 }
 
 /// How serving ends where the cartridge was not mounted.
@@ -90,9 +160,10 @@ fn closed_end(outcome: CloseEnd, steps: u64, travel: u64, nodes: u32) -> ServeEn
     }
 }
 
-/// What comes of a volume that was closed.
-pub fn of_close<D>(closed: Closed<D>) -> Served<D>
+/// What comes of a volume that was closed, and of what has printed its log.
+pub fn of_close<D, K: Sink>(closed: Closed<D>, printer: Printer<K>) -> Served<D, K>
     ensures drive { result.drive ≡ closed.drive }
+    ensures printer { result.printer ≡ printer }
     ensures log { result.log ≡ Some closed.log }
     ensures end { result.end ≡ closed_end closed.outcome closed.steps closed.travel closed.nodes }
 {
@@ -106,6 +177,7 @@ pub fn of_close<D>(closed: Closed<D>) -> Served<D>
     } = closed;
     Served {
         drive,
+        printer,
         log: Some(log),
         end: closed_end(outcome, steps, travel, nodes),
     }

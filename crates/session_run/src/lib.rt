@@ -11,7 +11,7 @@ mod serving;
 mod threads;
 mod timed;
 
-pub use ends::{ServeEnd, Served, end_line};
+pub use ends::{ServeEnd, Served, end_line, print_end};
 pub use host::Host;
 pub use ran::{Ran, RanEnd, run_sessions};
 pub use serving::serve_volume;

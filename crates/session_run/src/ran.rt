@@ -7,13 +7,11 @@ ghost use Rattle.session_run.specs.Ran.{HasRun};
 
 use crate::host::Host;
 use crate::threads::make_all;
-use run_laws::log_laws::logs_go_on;
 use std::sync::Wait;
 use std::thread::Threads;
-use tape_desk::Desk;
+use tape_desk::{Desk, Shelf};
 use tape_drive::Drive;
-use tape_edge::{Clock, Gate};
-use volume_core::Volume;
+use tape_edge::{Clock, Gate, Sink};
 
 /// How a run of sessions ended.
 #[derive(Clone, Copy, Debug, PartialEq, Eq)]
@@ -24,72 +22,77 @@ pub enum RanEnd {
     NoMemory,
 }
 
-/// The volume behind a run of its sessions.
-pub struct Ran<D: Drive, C: Clock> {
-    pub volume: Volume<D, C>,
+/// The volume and what has printed its log, behind a run of its sessions.
+pub struct Ran<D: Drive, C: Clock, K: Sink> {
+    pub shelf: Shelf<D, C, K>,
     pub outcome: RanEnd,
 }
 
-/// Makes all calls of all sessions of the volume's script: each session its own in order, in a thread of its own where
-/// threads can be made. Each passes the gate before each of its turns, and once more behind its last reply. There are
-/// as many sessions as the script has. Where memory is refused nothing was asked of the volume.
-pub fn run_sessions<R: Threads + Wait + Sync, D: Drive + Send, C: Clock + Send, G: Gate + Sync>(
-    host: &Host<'_, R, G>,
-    volume: Volume<D, C>,
-    sessions: u16,
-) -> Ran<D, C>
-    requires sessions { sessions ≡ greatest_session volume.fixed.script }
-    requires fresh { volume ≡ begun volume.fixed volume.next }
-    ensures { HasRun D.Drive volume result.volume result.outcome }
+/// Makes all calls of all sessions of the script of the shelf's volume: each session its own in order, in a thread of
+/// its own where threads can be made. Each passes the gate before each of its turns, and once more behind its last
+/// reply. There are as many sessions as the script has. Where memory is refused nothing was asked of the volume.
+pub fn run_sessions<
+    R: Threads + Wait + Sync,
+    D: Drive + Send,
+    C: Clock + Send,
+    K: Sink + Send,
+    G: Gate + Sync,
+>(host: &Host<'_, R, G>, shelf: Shelf<D, C, K>, sessions: u16) -> Ran<D, C, K>
+    requires sessions { sessions ≡ greatest_session shelf.volume.fixed.script }
+    requires fresh { shelf.volume ≡ begun shelf.volume.fixed shelf.volume.next }
+    ensures { HasRun D.Drive shelf result.shelf result.outcome }
 {
     if sessions == 0 {
-        run_none(volume)
+        run_none(shelf)
     } else {
-        run_some(host, volume, sessions)
+        run_some(host, shelf, sessions)
     }
 }
 
 /// A run of a script without a call.
-fn run_none<D: Drive, C: Clock>(volume: Volume<D, C>) -> Ran<D, C>
-    requires none { greatest_session volume.fixed.script ≡ 0 }
-    requires fresh { volume ≡ begun volume.fixed volume.next }
-    ensures { HasRun D.Drive volume result.volume result.outcome }
+fn run_none<D: Drive, C: Clock, K: Sink>(shelf: Shelf<D, C, K>) -> Ran<D, C, K>
+    requires none { greatest_session shelf.volume.fixed.script ≡ 0 }
+    requires fresh { shelf.volume ≡ begun shelf.volume.fixed shelf.volume.next }
+    ensures { HasRun D.Drive shelf result.shelf result.outcome }
 {
-    volume.keeps();
-    logs_go_on::<D>();
+    let Shelf { volume, printer } = shelf;
     // Each session of a call is at most the greatest one.
     let _none = volume.script().sessions();
     Ran {
-        volume,
+        shelf: Shelf { volume, printer },
         outcome: RanEnd::Done,
     }
 }
 
 /// A run of one session or more.
-fn run_some<R: Threads + Wait + Sync, D: Drive + Send, C: Clock + Send, G: Gate + Sync>(
-    host: &Host<'_, R, G>,
-    volume: Volume<D, C>,
-    sessions: u16,
-) -> Ran<D, C>
+fn run_some<
+    R: Threads + Wait + Sync,
+    D: Drive + Send,
+    C: Clock + Send,
+    K: Sink + Send,
+    G: Gate + Sync,
+>(host: &Host<'_, R, G>, shelf: Shelf<D, C, K>, sessions: u16) -> Ran<D, C, K>
     requires some { 1 ≤ sessions }
-    requires sessions { sessions ≡ greatest_session volume.fixed.script }
-    requires fresh { volume ≡ begun volume.fixed volume.next }
-    ensures { HasRun D.Drive volume result.volume result.outcome }
+    requires sessions { sessions ≡ greatest_session shelf.volume.fixed.script }
+    requires fresh { shelf.volume ≡ begun shelf.volume.fixed shelf.volume.next }
+    ensures { HasRun D.Drive shelf result.shelf result.outcome }
 {
     // Each session of a call is at most the greatest one.
-    let _most = volume.script().sessions();
-    let (desk, mut passes) = match Desk::open(host.alloc, volume, sessions) {
+    let _most = shelf.volume.script().sessions();
+    let (desk, mut passes) = match Desk::open(host.alloc, shelf, sessions) {
         Ok(dealt) => dealt,
-        Err(volume) => {
+        Err(shelf) => {
             return Ran {
-                volume,
+                shelf,
                 outcome: RanEnd::NoMemory,
             };
         }
     };
     make_all(host.rt, &desk, passes.as_mut_slice(), host.gate);
+    let closed = desk.close_desk(passes);
+    let Shelf { volume, printer } = closed;
     Ran {
-        volume: desk.close_desk(passes),
+        shelf: Shelf { volume, printer },
         outcome: RanEnd::Done,
     }
 }

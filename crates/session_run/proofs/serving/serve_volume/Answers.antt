@@ -15,11 +15,11 @@ serve_mounted-requires-clause-allowed g c = λ lifetimes outlives.
     (c.of-since.ensures ∙ c.commands.ensures) c.in-Ok.mounted c.args.script (g.C.Clock.one c.args.clock)
     c.in-Ok.ensures.found c.requires.allowed
 
-pub returns-in-Ok : goal.returns-in-Ok
-returns-in-Ok g c = c.serve_mounted.ensures c.args.drive (omega (arith, c.faults-faults_are_in_range.ensures))
+pub returns-in-Ok-clause-whole : goal.returns-in-Ok-clause-whole
+returns-in-Ok-clause-whole g c = c.serve_mounted.ensures.whole c.args.drive (omega (arith, c.faults-faults_are_in_range.ensures))
     (record { looks = c.in-Ok.ensures.looks; faults = c.in-Ok.ensures.counts.later }) (c.of-since.ensures ∙ c.commands.ensures)
 
-pub returns-in-Err : goal.returns-in-Err
-returns-in-Err g c =
+pub returns-in-Err-clause-whole : goal.returns-in-Err-clause-whole
+returns-in-Err-clause-whole g c =
     unmounted g.D.Drive c.args.drive c.mount.new.drive c.in-Err.error c.mount_end.result c.mount_end.ensures c.in-Err.ensures.refused c.in-Err.ensures.counts.told
     (record { looks = c.in-Err.ensures.looks; faults = c.in-Err.ensures.counts.later })

@@ -14,4 +14,4 @@ for_each_mut-requires-sync-F g c κs = search (desk_sync, crosses, sendable) dep
 
 pub returns : goal.returns
 returns g c = λ k p lt. let at = (c.for_each_mut.ensures k p lt).1 in
-    subst (λ (z : DeskView g.row.D.Denot × DeskView g.row.D.Denot). IsDone z.0 z.1) (λ i. (at.argument_is i, at.left i)) at.call
+    subst (λ (z : DeskView g.row.D.Denot g.row.K.Denot × DeskView g.row.D.Denot g.row.K.Denot). IsDone z.0 z.1) (λ i. (at.argument_is i, at.left i)) at.call
