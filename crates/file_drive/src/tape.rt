@@ -122,12 +122,7 @@ impl<R: FolderCalls> Opened<R> {
         requires size { length bytes.now ≤ 1048576 }
     {
         match self.tape.locate(at) {
-            Ok(()) => {
-                if self.is_gap(at) {
-                    return Err(DriveErr::Failed);
-                }
-                self.tape.write(bytes)
-            }
+            Ok(()) => self.tape.write(bytes),
             Err(why) => Err(why),
         }
     }
@@ -137,19 +132,9 @@ impl<R: FolderCalls> Opened<R> {
         requires { at.pos < capacity at.part folder_limits }
     {
         match self.tape.locate(at) {
-            Ok(()) => {
-                if self.is_gap(at) {
-                    return Err(DriveErr::Failed);
-                }
-                self.tape.mark()
-            }
+            Ok(()) => self.tape.mark(),
             Err(why) => Err(why),
         }
-    }
-
-    // Whether positions in front of a place have no item. Nothing is written behind such a gap.
-    fn is_gap(&self, at: Place) -> bool {
-        self.tape.count(at.part) < at.pos
     }
 
     pub(crate) fn flush(&mut self) -> Result<(), DriveErr> {

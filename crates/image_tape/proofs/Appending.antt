@@ -90,7 +90,6 @@ module _ {D T E : Type 0} (disk : Ghosts D) (part : Part) (x : Item) (r : Result
   appends_by first whole second = record {
     stays = record {
       limits = second.stays.limits ∙ first.stays.limits;
-      head = second.stays.head ∙ first.stays.head;
       faults = second.stays.faults ∙ first.stays.faults;
       opened = second.stays.opened ∙ first.stays.opened;
     };

@@ -1,5 +1,5 @@
 -- A tape that is opened is one.
-use Rattle.std.proofs.Common.{◌≡◌, ℕ, ◌+◌, ◌-◌, ◌^◌, ◌<◌, ◌≤◌, Bool, true, false, ◌&&◌, nat_lt, nat_le, List, [], take, length, Option, Some, None, Result, Ok, Err, refl, sym, ap, ◌∙◌, subst, arith}
+use Rattle.std.proofs.Common.{◌≡◌, ℕ, ◌+◌, ◌-◌, ◌^◌, ◌<◌, ◌≤◌, Bool, true, false, ◌&&◌, nat_lt, nat_le, List, [], take, length, Option, Some, None, Result, Ok, Err, inl, refl, sym, ap, ◌∙◌, subst, arith}
 use Rattle.std.specs.Prelude.{if◌then◌else◌}
 use Rattle.std.specs.List.{flat_map}
 use Rattle.std.proofs.lemmas.Bool.{and_parts, leb-true, ltb-true}
@@ -8,8 +8,11 @@ use Rattle.tape_types.specs.Cartridges.{IsLimits}
 use Rattle.tape_types.specs.declared.cartridges.Cartridge.{Cartridge}
 use Rattle.tape_types.specs.declared.cartridges.Item.{Item}
 use Rattle.tape_types.specs.declared.cartridges.Limits.{Limits}
+use Rattle.crash_steps.proofs.Joined.{widened}
 use Rattle.byte_disk.specs.Files.{AreFiles, Files}
 use Rattle.byte_disk.specs.declared.disk.ByteDisk.{Ghosts}
+use Rattle.image_slots.specs.Calls.{WithinOpen}
+use Rattle.image_slots.specs.Pieces.{CrashesIn}
 use Rattle.image_slots.specs.State as slot
 use Rattle.image_slots.specs.declared.known.Known.TheVariants.{Steady}
 use Rattle.image_format.specs.declared.values.Half.{Half}
@@ -28,8 +31,9 @@ use Rattle.image_format.specs.Offsets.{Offsets, offsets_from}
 use Rattle.image_format.specs.Records.{AreRecords, items_in, record_bytes}
 use Rattle.image_format.specs.Values.{flag, value_of}
 use Rattle.image_tape.specs.declared.doubt.Doubt.TheVariants.{Settled}
-use Rattle.image_tape.specs.Opens.{AreSynced, HasFault, HasOpened, IsReason, IsRefused, IsTellable, RefusedAs, reason_of}
+use Rattle.image_tape.specs.Opens.{AreSynced, HasFault, HasLooked, HasOpened, IsReason, IsRefused, IsTellable, RefusedAs, reason_of}
 use Rattle.image_tape.specs.Tape.{AreEarlier, IsKept, Lie, Stands, View}
+use Rattle.image_tape.proofs.Heads.{nowhere}
 use Rattle.image_tape.proofs.Fronts.{all_bytes, offsets_size}
 use Rattle.image_tape.proofs.Opened.{agreed_opens, counted, is_whole, whole}
 use Rattle.image_tape.proofs.Lifting.{same_cartridge}
@@ -104,6 +108,7 @@ module _ {D : Type 0} (disk : Ghosts D) (s : slot.View D) (room : Offsets) (valu
             let head = header_of_value room.limits image.cm s.value value ((known s kept steady d is).1 image leaves) told.said in
             (counted st, agreed_opens st image (st.agree image leaves) head);
         past = subst (λ (l : List (ℕ × slot.View D)). AreEarlier disk l (disk.commands s.disk)) (sym first) tt;
+        within = nowhere _;
         tells = λ d is. (
           stands_whole d is,
           header_of_value room.limits d.cm s.value value (known s kept steady d is).0 told.said,
@@ -150,17 +155,23 @@ tellable disk limits a b c room value bytes synced held said looks read ip dp = 
 abbrev read_ok : Cartridge → Result Cartridge Refusal
 read_ok c = Ok c
 
+-- what only reads leaves what an opening may leave
+looked_opens : {D : Type 0} (disk : Ghosts D) (old new : D) → HasLooked disk old new → CrashesIn disk WithinOpen old new
+looked_opens disk old new looked = widened (λ x y same. inl same) looked.crash
+
 module _ {D : Type 0} (disk : Ghosts D) (limits : Limits) (old : D) (s : slot.View D) (room : Offsets) (value : SlotValue) (opened : ℕ) where
   abbrev pub begun : View D
   begun = record { slots = s; room = room; base = value; reads = value; doubt = Settled; head = None; faults = 0; opened = opened; past = [] }
 
-  opened_here : IsKept disk begun → opened ≡ disk.commands s.disk → room.limits ≡ limits → disk.held s.disk ≡ disk.held old
+  opened_here : IsKept disk begun → opened ≡ disk.commands s.disk → room.limits ≡ limits → HasLooked disk old s.disk → disk.held s.disk ≡ disk.held old
       → ((d : Files) → disk.held old ≡ Some d → IsRead limits d (Ok value) room) → HasOpened disk limits old begun
-  opened_here kept now same held read = record {
+  opened_here kept now same looked held read = record {
     limits_are = same;
     head = refl;
     faults = refl;
     opened = now;
+    later = looked.later;
+    crash = λ d is_old. looked_opens disk old s.disk looked;
     untold = λ none. held ∙ none;
     told = λ d is_old.
         let is : disk.held s.disk ≡ Some d = held ∙ is_old in
@@ -179,10 +190,10 @@ module _ {D : Type 0} (disk : Ghosts D) (limits : Limits) (old : D) (s : slot.Vi
   }
 
   -- the tape that begins over a disk has its cartridge
-  pub has_opened : (t : View D) → t ≡ begun → IsKept disk t → opened ≡ disk.commands s.disk → room.limits ≡ limits → disk.held s.disk ≡ disk.held old
+  pub has_opened : (t : View D) → t ≡ begun → IsKept disk t → opened ≡ disk.commands s.disk → room.limits ≡ limits → HasLooked disk old s.disk → disk.held s.disk ≡ disk.held old
       → ((d : Files) → disk.held old ≡ Some d → IsRead limits d (Ok value) room) → HasOpened disk limits old t
-  has_opened t is kept now same held read = subst (λ (v : View D). HasOpened disk limits old v) (sym is)
-      (opened_here (subst (λ (v : View D). IsKept disk v) is kept) now same held read)
+  has_opened t is kept now same looked held read = subst (λ (v : View D). HasOpened disk limits old v) (sym is)
+      (opened_here (subst (λ (v : View D). IsKept disk v) is kept) now same looked held read)
 
 refused_by : {D : Type 0} (disk : Ghosts D) (limits : Limits) (old : D) (room : Offsets) (why : ReadErr) (before after : ℕ) (d : Files) → IsRead limits d (Err why) room
     → RefusedAs limits d (reason_of why before after)
@@ -197,13 +208,15 @@ fault_by re.Disk before after le h = record { lowest = omega arith; rose = h; hi
 
 -- why nothing was read of a disk is why no tape is opened
 pub is_refused : {D : Type 0} (disk : Ghosts D) (limits : Limits) (old : D) (s new : D) (room : Offsets) (why : ReadErr) (before after : ℕ) (reason : OpenErr)
-    → reason ≡ reason_of why before after → new ≡ s → before ≡ disk.faults old → after ≡ disk.faults s → disk.faults old ≤ disk.faults s → disk.held s ≡ disk.held old
+    → reason ≡ reason_of why before after → new ≡ s → before ≡ disk.faults old → after ≡ disk.faults s → disk.faults old ≤ disk.faults s → HasLooked disk old s → disk.held s ≡ disk.held old
     → ((d : Files) → disk.held old ≡ Some d → IsRead limits d (Err why) room) → IsReason (disk.faults old) (disk.faults s) why
     → IsRefused disk limits reason old new
-is_refused {D = D} disk limits old s new room why before after reason is same eb ea later held read cause =
+is_refused {D = D} disk limits old s new room why before after reason is same eb ea later looked held read cause =
     subst (λ (b : D). IsRefused disk limits reason old b) (sym same)
     (subst (λ (r : OpenErr). IsRefused disk limits r old s) (sym (is ∙ ap (λ (n : ℕ). reason_of why n after) eb ∙ ap (λ (n : ℕ). reason_of why (disk.faults old) n) ea)) (record {
       told = λ d is_old. refused_by disk limits old room why (disk.faults old) (disk.faults s) d (read d is_old);
+      later = looked.later;
+      crash = λ d is_old. looked_opens disk old s looked;
       untold = λ none. held ∙ none;
       left = λ d is_old. (d, held ∙ is_old, refl);
       fault = fault_by why (disk.faults old) (disk.faults s) later cause;

@@ -216,6 +216,26 @@ module _ {D T E : Type 0} (disk : Ghosts D) (r : Result T E) (part : Part) (at :
         stays_touched part v.base at (length bytes) d e touches.0 touches.1 (omega (arith, ends.0, place)) (omega (arith, ends.0, ends.1)),
       )
 
+  -- the same items read
+  same_read : (d e : Files) → disk.held v.slots.disk ≡ Some d → disk.held s.disk ≡ Some e → image_by e (Some v.reads) ≡ image_by d (Some v.reads)
+  same_read d e held now =
+      let h = tells d held in
+      let stays = file_stays d e held now in
+      is_whole (stands_stays part (disk.leaves v.slots.disk) (λ f. ⊥) d e h.0 stays.0 stays.1 (λ left none. absurd none)) ∙ whole_stays part (disk.leaves v.slots.disk) d e h.0 stays.0 stays.1
+      ∙ sym (is_whole h.0)
+
+  read_on : (o p : Option Files) → disk.held v.slots.disk ≡ o → disk.held s.disk ≡ p → held_by (with_slots s v) p ≡ held_by v o
+  read_on None None eo ep = refl
+  read_on None (Some e) eo ep = absurd (let bad : Some e ≡ None = sym ep ∙ untold eo in cc bad)
+  read_on (Some d) None eo ep = absurd (let t = told d eo in let bad : None ≡ Some t.0 = sym ep ∙ t.1 in cc bad)
+  read_on (Some d) (Some e) eo ep =
+      ap (λ (x : Doubt). given (image_by e (Some (reading_by x v.base v.reads (header v.room.limits e.cm))))) settled
+      ∙ ap given (same_read d e eo ep)
+      ∙ sym (ap (λ (x : Doubt). given (image_by d (Some (reading_by x v.base v.reads (header v.room.limits d.cm))))) settled)
+
+  held_behind : held_of disk (with_slots s v) ≡ held_of disk v
+  held_behind = read_on (disk.held v.slots.disk) (disk.held s.disk) refl refl
+
   -- a tape is still one when bytes were written behind its records
   pub kept_behind : IsKept disk (with_slots s v)
   kept_behind = record {
@@ -225,6 +245,7 @@ module _ {D T E : Type 0} (disk : Ghosts D) (r : Result T E) (part : Part) (at :
     reached = omega (arith, kept.reached, (one_at_most done.count).later);
     always = always_behind;
     past = earlier_on disk v.past (disk.commands v.slots.disk) (disk.commands s.disk) (one_at_most done.count).later kept.past;
+    within = λ p c head is_held. kept.within p c head (sym held_behind ∙ is_held);
     tells = λ e now.
         let was = told_before (disk.held v.slots.disk) (disk.held s.disk) untold e now in
         let h = tells was.0 was.1 in
@@ -247,30 +268,10 @@ module _ {D T E : Type 0} (disk : Ghosts D) (r : Result T E) (part : Part) (at :
       let same : c ≡ counted (tells d held).0 = same_cartridge _ _ c (left_opens d held before left left_before step) opens in
       subst (λ (x : Cartridge). Opens v.room.limits before x) (sym same) (before_opens d held before left_before))
 
-  -- the same items read
-  same_read : (d e : Files) → disk.held v.slots.disk ≡ Some d → disk.held s.disk ≡ Some e → image_by e (Some v.reads) ≡ image_by d (Some v.reads)
-  same_read d e held now =
-      let h = tells d held in
-      let stays = file_stays d e held now in
-      is_whole (stands_stays part (disk.leaves v.slots.disk) (λ f. ⊥) d e h.0 stays.0 stays.1 (λ left none. absurd none)) ∙ whole_stays part (disk.leaves v.slots.disk) d e h.0 stays.0 stays.1
-      ∙ sym (is_whole h.0)
-
-  read_on : (o p : Option Files) → disk.held v.slots.disk ≡ o → disk.held s.disk ≡ p → held_by (with_slots s v) p ≡ held_by v o
-  read_on None None eo ep = refl
-  read_on None (Some e) eo ep = absurd (let bad : Some e ≡ None = sym ep ∙ untold eo in cc bad)
-  read_on (Some d) None eo ep = absurd (let t = told d eo in let bad : None ≡ Some t.0 = sym ep ∙ t.1 in cc bad)
-  read_on (Some d) (Some e) eo ep =
-      ap (λ (x : Doubt). given (image_by e (Some (reading_by x v.base v.reads (header v.room.limits e.cm))))) settled
-      ∙ ap given (same_read d e eo ep)
-      ∙ sym (ap (λ (x : Doubt). given (image_by d (Some (reading_by x v.base v.reads (header v.room.limits d.cm))))) settled)
-
-  held_behind : held_of disk (with_slots s v) ≡ held_of disk v
-  held_behind = read_on (disk.held v.slots.disk) (disk.held s.disk) refl refl
-
   -- bytes written behind the records show in no reading and no image
   pub hides_behind : Hides disk 1 w (with_slots s v)
   hides_behind = subst (λ (x : View D). Hides disk 1 x (with_slots s v)) is (record {
-    stays = record { limits = refl; head = refl; faults = refl; opened = refl };
+    stays = record { limits = refl; faults = refl; opened = refl };
     held = held_behind;
     count = one_at_most done.count;
     crash = λ c held. let t = told_files disk v settled c held in crashes_behind t.0 t.1;
@@ -294,7 +295,7 @@ module _ {D : Type 0} (disk : Ghosts D) where
   -- where no command is done, nothing shows
   pub no_hides : (v : View D) → Hides disk 0 v v
   no_hides v = record {
-    stays = record { limits = refl; head = refl; faults = refl; opened = refl };
+    stays = record { limits = refl; faults = refl; opened = refl };
     held = refl;
     count = record { later = omega arith; bound = omega arith };
     crash = λ c held. no_step (disk.commands v.slots.disk) _ _ (λ image left. refl);
@@ -305,7 +306,6 @@ module _ {D : Type 0} (disk : Ghosts D) where
   then_hides m n a b c first second = record {
     stays = record {
       limits = second.stays.limits ∙ first.stays.limits;
-      head = second.stays.head ∙ first.stays.head;
       faults = second.stays.faults ∙ first.stays.faults;
       opened = second.stays.opened ∙ first.stays.opened;
     };

@@ -1,6 +1,7 @@
 -- Why a command of a tape failed, step by step.
-use Rattle.std.proofs.Common.{◌≡◌, ◌≢◌, ◌≤◌, ◌<◌, ◌+◌, ◌-◌, ◌^◌, ℕ, List, ⊎_elim, inr, Option, Some, None, Result, Err, refl, sym, ap, ◌∙◌, subst, arith}
+use Rattle.std.proofs.Common.{◌≡◌, ◌≢◌, ◌≤◌, ◌<◌, ◌+◌, ◌-◌, ◌^◌, ℕ, Bool, true, false, List, length, ⊎_elim, inr, Option, Some, None, Result, Err, refl, sym, ap, ◌∙◌, subst, arith}
 use Rattle.std.specs.Prelude.{IfErr, IfNone}
+use Rattle.std.proofs.lemmas.List.{length-append}
 use Rattle.byte_disk.specs.Files.{Files}
 use Rattle.byte_disk.specs.declared.disk.ByteDisk.{Ghosts}
 use Rattle.image_slots.specs.State as slot
@@ -10,26 +11,34 @@ use Rattle.image_slots.specs.declared.errors.SetErr.TheVariants.{Serial}
 use Rattle.image_slots.specs.declared.known.Known.TheVariants.{Steady}
 use Rattle.image_slots.proofs.Choosing.{value_chosen}
 use Rattle.image_format.specs.declared.values.SlotValue.{SlotValue}
-use Rattle.image_format.specs.Images.{header, header_by}
+use Rattle.image_format.specs.Images.{header, header_by, tail_of}
+use Rattle.image_format.specs.Values.{flag}
 use Rattle.tape_types.specs.declared.cartridges.Limits.{Limits}
 use Rattle.tape_types.specs.declared.cartridges.Part.{Part}
+use Rattle.tape_types.specs.declared.cartridges.Place.{Place}
 use Rattle.tape_drive.specs.declared.drive.DriveErr.{DriveErr}
 use Rattle.image_tape.specs.declared.doubt.Doubt.{Doubt}
 use Rattle.image_tape.specs.declared.doubt.Doubt.TheVariants.{Settled, Open}
 use Rattle.image_tape.specs.Halves.{half_of}
 use Rattle.image_tape.specs.Steps.{IsFound}
 use Rattle.image_tape.specs.Blames.{IsBlamed}
-use Rattle.image_tape.specs.Tape.{IsKept, Tells, View}
+use Rattle.image_tape.specs.Tape.{IsKept, IsWithin, Tells, View, held_of}
+use Rattle.image_tape.proofs.Heads.{within_as}
+use Rattle.image_tape.proofs.Opened.{whole}
 use Rattle.image_tape.proofs.Setting.{number_of}
-use Rattle.image_tape.proofs.Shaping.{end_small}
+use Rattle.image_tape.proofs.Shaping.{end_small, items_are, records_count, records_of}
 use Rattle.image_tape.proofs.Spots.{small_of}
 use Rattle.image_tape.proofs.Surely.{other_by_number}
-use Rattle.image_tape.proofs.Telling.{tells_of}
+use Rattle.image_tape.proofs.Telling.{held_whole, tells_of}
 use Rattle.image_tape.proofs.Upkeep.{with_slots}
 
 untold_by : {X : Type 0} (o : Option X) → ((x : X) → o ≡ Some x → ⊥) → o ≡ None
 untold_by None not = refl
 untold_by (Some x) not = absurd (not x refl)
+
+tail_flag : (t : Bool) → length (tail_of t) ≡ flag t
+tail_flag true = refl
+tail_flag false = refl
 
 module _ {D : Type 0} (disk : Ghosts D) where
   -- of a disk that tells no files nothing is said
@@ -90,4 +99,26 @@ module _ {D : Type 0} (disk : Ghosts D) where
     failed = inr (inr (subst (λ (x : View D). disk.held x.slots.disk ≡ None) is (untold_by (disk.held v.slots.disk) (λ d told.
         let st = (tells_of disk v kept (ap (λ (x : View D). x.doubt) is ∙ settled) d told).0 in
         omega (arith, at, far, end_small part st (small_of disk v kept part))))));
+  }
+
+  -- a place within what is told has no gap in front
+  pub gap_blame : {T : Type 0} {P : View D → Type 0} (why : DriveErr) (at : Place) (v w : View D) (count : ℕ) → v ≡ w → IsKept disk v → w.doubt ≡ Settled
+      → count ≡ (half_of at.part w.reads).count + flag (half_of at.part w.reads).torn → count < at.pos → IsWithin (held_of disk w) (Some at)
+      → IsBlamed {T = T} disk P (Err why) w w
+  gap_blame why at v w count is kept settled_w counts gap within = record {
+    later = omega arith;
+    failed = inr (inr (subst (λ (x : View D). disk.held x.slots.disk ≡ None) is (untold_by (disk.held v.slots.disk) (λ d told.
+        let settled : v.doubt ≡ Settled = ap (λ (x : View D). x.doubt) is ∙ settled_w in
+        let st = (tells_of disk v kept settled d told).0 in
+        omega (
+          arith,
+          within_as disk v w (Some at) is within at (whole st) refl (held_whole disk v kept settled d told),
+          ap (λ (x : View D). (half_of at.part x.reads).count + flag (half_of at.part x.reads).torn) is,
+          ap length (items_are at.part st),
+          length-append (records_of at.part st) (tail_of (half_of at.part v.reads).torn),
+          records_count at.part st,
+          tail_flag (half_of at.part v.reads).torn,
+          counts,
+          gap,
+        )))));
   }

@@ -193,7 +193,6 @@ module _ {D : Type 0} (disk : Ghosts D) where
     stored_stays : (r : Result T E) → IsStored disk 8 r b c → Stays a c
     stored_stays r done = record {
       limits = done.stays.limits ∙ looks.stays.limits;
-      head = done.stays.head ∙ looks.stays.head;
       faults = done.stays.faults ∙ looks.stays.faults;
       opened = done.stays.opened ∙ looks.stays.opened;
     }
@@ -241,7 +240,6 @@ module _ {D : Type 0} (disk : Ghosts D) where
     noted_stays : (r : Result T E) → IsNoteSet disk part note r b c → Stays a c
     noted_stays r done = record {
       limits = done.stays.limits ∙ looks.stays.limits;
-      head = done.stays.head ∙ looks.stays.head;
       faults = done.stays.faults ∙ looks.stays.faults;
       opened = done.stays.opened ∙ looks.stays.opened;
     }

@@ -6,12 +6,14 @@ use Rattle.std.proofs.lemmas.List.{nil_from_length}
 use Rattle.tape_types.specs.declared.cartridges.Limits.{Limits}
 use Rattle.byte_disk.specs.Files.{Files}
 use Rattle.byte_disk.specs.declared.disk.ByteDisk.{Ghosts}
-use Rattle.image_slots.specs.Calls.{IsOpened, IsOpening, first_header}
+use Rattle.image_slots.specs.Calls.{IsOpened, IsOpening, WithinOpen, first_header}
+use Rattle.image_slots.specs.Pieces.{CrashesIn}
 use Rattle.image_slots.specs.Sides.{chosen}
 use Rattle.image_slots.specs.Slots.{IsBlank, Stores, first_value}
 use Rattle.image_slots.specs.declared.errors.OpenErr as slots
 use Rattle.image_slots.specs.declared.errors.OpenErr.TheVariants as slot_errors
 use Rattle.image_slots.specs.declared.sides.Found.{Found}
+use Rattle.image_slots.proofs.Chains.{both_steps}
 use Rattle.image_slots.proofs.Choosing.{chosen_value, value_chosen}
 use Rattle.image_format.specs.declared.refusal.Refusal.TheVariants as rh
 use Rattle.image_format.specs.Images.{blank, header, header_by, image, image_by, is_blank}
@@ -83,15 +85,28 @@ stored_image limits e ip dp (inr has) = by (is_blank e) refl
 made_image : (limits : Limits) (d e : Files) → IsBlank d → e.ip ≡ d.ip → e.dp ≡ d.dp → Stores e first_value → image limits e ≡ image limits d
 made_image limits d e none ip dp stores = stored_image limits e (ip ∙ none.ip) (dp ∙ none.dp) stores ∙ sym (blank_image limits d none)
 
+-- two openings are one
+one_opening : (x y z : Files) → WithinOpen x y → WithinOpen y z → WithinOpen x z
+one_opening x y z h (inl same) = subst (λ (f : Files). WithinOpen x f) (sym same) h
+one_opening x y z (inl same) (inr made) = inr (subst (λ (f : Files). IsBlank f × (z.ip ≡ f.ip) × (z.dp ≡ f.dp) × Stores z first_value) same made)
+one_opening x y z (inr first) (inr made) = inr (first.0, made.1 ∙ first.1, made.2 ∙ first.2, made.3)
+
 module _ {D : Type 0} (disk : Ghosts D) where
   -- the files once the header was found
   module _ (old new : D) (f : Found) (found : IsOpening disk 14 (Ok f) old new) where
+    -- what an opening leaves to a crash, once the header was found
+    opening_behind : {last : D} (d : Files) → disk.held old ≡ Some d → ((e : Files) → disk.held new ≡ Some e → CrashesIn disk WithinOpen new last)
+        → CrashesIn disk WithinOpen old last
+    opening_behind d is crash = let t = found.told d is in both_steps one_opening found.count.later (found.crash d is) (crash t.0 t.1)
+
     opened_one : (limits : Limits) (v : View D) → HasOpened disk limits new v → HasOpened disk limits old v
     opened_one limits v h = record {
       limits_are = h.limits_are;
       head = h.head;
       faults = h.faults;
       opened = h.opened;
+      later = omega (arith, found.count.later, h.later);
+      crash = λ d is. opening_behind d is h.crash;
       untold = λ none. h.untold (found.untold none);
       told = λ d is.
           let t = found.told d is in
@@ -112,6 +127,8 @@ module _ {D : Type 0} (disk : Ghosts D) where
     pub refused_one : (limits : Limits) (why : OpenErr) (last : D) → IsRefused disk limits why new last → IsRefused disk limits why old last
     refused_one limits why last h = record {
       told = λ d is. let t = found.told d is in refused_as limits why d t.0 (same_image limits d t.0 f t.2) (h.told t.0 t.1);
+      later = omega (arith, found.count.later, h.later);
+      crash = λ d is. opening_behind d is h.crash;
       untold = λ none. h.untold (found.untold none);
       left = λ d is.
           let t = found.told d is in
@@ -139,12 +156,16 @@ module _ {D : Type 0} (disk : Ghosts D) where
       → IsRefused disk limits (header_reason why (disk.faults old) (disk.faults new)) old new
   header_refused limits slot_errors.Header old new found = record {
     told = λ d is. let t = found.told d is in no_header limits d t.2.1;
+    later = found.count.later;
+    crash = found.crash;
     untold = found.untold;
     left = λ d is. let t = found.told d is in (t.0, t.1, ap (image limits) t.2.0);
     fault = tt;
   }
   header_refused limits slot_errors.Disk old new found = record {
     told = λ d is. tt;
+    later = found.count.later;
+    crash = found.crash;
     untold = found.untold;
     left = λ d is.
         let t = found.told d is in (

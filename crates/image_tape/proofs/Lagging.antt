@@ -64,7 +64,7 @@ module _ {D : Type 0} (disk : Ghosts D) (v : View D) (kept : IsKept disk v) (set
 
   pub rises_lagging : {T E : Type 0} (u : T) (at : Place) → IsUncounted at v → Rises {T = T} {E = E} disk at (Ok u) v lagging
   rises_lagging u at uncounted = record {
-    stays = record { limits = refl; head = refl; faults = refl; opened = refl };
+    stays = record { limits = refl; faults = refl; opened = refl };
     count = record { later = omega arith; bound = omega arith };
     settled = settled;
     cut = λ d is. uncounted_at disk at v kept settled uncounted d is;

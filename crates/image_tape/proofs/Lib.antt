@@ -1,4 +1,5 @@
 pub mod Fronts
+pub mod Heads
 pub mod Lifting
 pub mod Moments
 pub mod Opened

@@ -261,7 +261,7 @@ module _ {D T E : Type 0} (disk : Ghosts D) (r : Result T E) (at : Place) (value
 -- nothing was done
 pub rises_not : {D T E : Type 0} (disk : Ghosts D) (at : Place) (why : E) (v : View D) → Rises {T = T} disk at (Err why) v v
 rises_not disk at why v = record {
-  stays = record { limits = refl; head = refl; faults = refl; opened = refl };
+  stays = record { limits = refl; faults = refl; opened = refl };
   count = record { later = omega arith; bound = omega arith };
   settled = tt;
   cut = tt;

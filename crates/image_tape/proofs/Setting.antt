@@ -29,6 +29,7 @@ use Rattle.image_tape.specs.declared.doubt.Doubt.TheVariants.{Settled, Open}
 use Rattle.image_tape.specs.Halves.{with_serial}
 use Rattle.image_tape.specs.Steps.{FromTo, IsCommit, IsTaken, MayStand}
 use Rattle.image_tape.specs.Tape.{Agree, AheadOn, AlwaysOpens, CrashesAt, Holds, IsKept, IsTold, SaysOne, Stands, Tells, View, cut_to, given, held_by, reading_by, says, with_reference}
+use Rattle.image_tape.proofs.Heads.{nowhere}
 use Rattle.image_tape.proofs.Lifting.{goes_on, lifted, opened_left, same_cartridge, same_reference}
 use Rattle.image_tape.proofs.Moments.{earlier_on}
 use Rattle.image_tape.proofs.Opened.{agreed_opens, counted, is_counted}
@@ -167,7 +168,7 @@ module _ {D : Type 0} (disk : Ghosts D) (v : View D) (s : slot.View D) (value re
     base = value;
     reads = reads;
     doubt = doubt;
-    head = v.head;
+    head = None;
     faults = v.faults;
     opened = v.opened;
     past = v.past;
@@ -185,6 +186,7 @@ module _ {D : Type 0} (disk : Ghosts D) (v : View D) (s : slot.View D) (value re
         reached = omega (arith, kept.reached, done.count.later);
         always = always_set;
         past = earlier_on disk v.past (disk.commands v.slots.disk) (disk.commands s.disk) done.count.later kept.past;
+        within = nowhere _;
         tells = λ e is.
             let was = told_set e is in
             let known = left_known s slots_kept steady e is in
@@ -207,7 +209,7 @@ module _ {D : Type 0} (disk : Ghosts D) (v : View D) (s : slot.View D) (value re
     base = v.base;
     reads = v.reads;
     doubt = Open value reads;
-    head = v.head;
+    head = None;
     faults = v.faults;
     opened = v.opened;
     past = v.past;
@@ -221,6 +223,7 @@ module _ {D : Type 0} (disk : Ghosts D) (v : View D) (s : slot.View D) (value re
     reached = omega (arith, kept.reached, done.count.later);
     always = always_set;
     past = earlier_on disk v.past (disk.commands v.slots.disk) (disk.commands s.disk) done.count.later kept.past;
+    within = nowhere _;
     tells = λ e is.
         let was = told_set e is in (
           stands_over (disk.leaves v.slots.disk) (disk.leaves s.disk) was.0 e (st0 was.0 was.1) was.2 was.3 (left_from was.0 was.1),
@@ -306,7 +309,7 @@ module _ {D : Type 0} (disk : Ghosts D) (v : View D) (s : slot.View D) (value re
   pub is_set : (room : Offsets) (doubt : Doubt) → doubt ≡ Settled → room.limits ≡ v.room.limits → value.vcr ≡ reads.vcr
       → IsKept disk (set_view room doubt) → IsCommit {T = Unit {0}} {E = DriveErr} disk value reads (Ok tt) v (set_view room doubt)
   is_set room doubt sure same same_vcr set_kept = record {
-    stays = record { limits = same; head = refl; faults = refl; opened = refl };
+    stays = record { limits = same; faults = refl; opened = refl };
     count = done.count;
     untold = done.untold;
     told = λ d from to is from_is to_is.
@@ -323,7 +326,7 @@ module _ {D : Type 0} (disk : Ghosts D) (v : View D) (s : slot.View D) (value re
 
   pub is_open : (why : DriveErr) → v.reads.vcr ≤ value.vcr → IsCommit {T = Unit {0}} {E = DriveErr} disk value reads (Err why) v open_view
   is_open why later = record {
-    stays = record { limits = refl; head = refl; faults = refl; opened = refl };
+    stays = record { limits = refl; faults = refl; opened = refl };
     count = done.count;
     untold = done.untold;
     told = λ d from to is from_is to_is.
@@ -339,7 +342,7 @@ not_set : {D T E : Type 0} (disk : Ghosts D) (v : View D) (value reads : SlotVal
     → ((d : Files) → disk.held v.slots.disk ≡ Some d → Stands v.room.limits value reads (cut_to reads v.room) (disk.leaves v.slots.disk) d)
     → IsCommit {T = T} disk value reads (Err why) v v
 not_set disk v value reads why kept settled stands = record {
-  stays = record { limits = refl; head = refl; faults = refl; opened = refl };
+  stays = record { limits = refl; faults = refl; opened = refl };
   count = record { later = omega arith; bound = omega arith };
   untold = λ none. none;
   told = λ d from to is from_is to_is. inl
@@ -406,8 +409,8 @@ module _ {D : Type 0} (disk : Ghosts D) (v w : View D) (s : slot.View D) (value 
   pub commit_kept : slot.KnownAreLeft disk → slot.IsKept disk s → (room : Offsets) (doubt : Doubt) → room ≡ cut_to reads v.room → doubt ≡ v.doubt
       → r ≡ Ok tt → IsKept disk (set_view disk v s value' reads rest r kept settled sized stands is_next done room doubt)
   commit_kept left_known slots_kept room doubt cut same ok =
-      subst (λ (x : Offsets). IsKept disk (record { slots = s; room = x; base = value'; reads = reads; doubt = doubt; head = v.head; faults = v.faults; opened = v.opened; past = v.past })) (sym cut)
-      (subst (λ (x : Doubt). IsKept disk (record { slots = s; room = cut_to reads v.room; base = value'; reads = reads; doubt = x; head = v.head; faults = v.faults; opened = v.opened; past = v.past }))
+      subst (λ (x : Offsets). IsKept disk (record { slots = s; room = x; base = value'; reads = reads; doubt = doubt; head = None; faults = v.faults; opened = v.opened; past = v.past })) (sym cut)
+      (subst (λ (x : Doubt). IsKept disk (record { slots = s; room = cut_to reads v.room; base = value'; reads = reads; doubt = x; head = None; faults = v.faults; opened = v.opened; past = v.past }))
       (sym (same ∙ settled))
       (kept_set disk v s value' reads rest r kept settled sized stands is_next done left_known slots_kept
       (done.after ∙ ap (λ (x : Result (Unit {0}) SetErr). slot.after_set x rest s.disk v.slots) ok) holds))

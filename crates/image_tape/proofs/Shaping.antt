@@ -1,5 +1,5 @@
 -- What reads becomes shorter or longer, and nothing on the disk changes.
-use Rattle.std.proofs.Common.{◌≡◌, ℕ, ◌+◌, ◌-◌, ◌*◌, ◌^◌, ◌<◌, ◌≤◌, ◌⊎◌, inl, inr, min, Bool, true, false, List, [], ◌∷◌, ◌++◌, take, length, get_or, Option, Some, Result, Ok, Err, OnOk, refl, sym, ap, ◌∙◌, subst, arith}
+use Rattle.std.proofs.Common.{◌≡◌, ℕ, ◌+◌, ◌-◌, ◌*◌, ◌^◌, ◌<◌, ◌≤◌, ◌⊎◌, inl, inr, min, Bool, true, false, List, [], ◌∷◌, ◌++◌, take, length, get_or, Option, Some, None, Result, Ok, Err, OnOk, refl, sym, ap, ◌∙◌, subst, arith}
 use Rattle.std.specs.List.{flat_map}
 use Rattle.std.proofs.lemmas.List.{append-nil, length-append, length-take-le, take-append-le, take-take, take_all, take_at}
 use Rattle.tape_types.specs.Bounds.{most_positions}
@@ -28,6 +28,7 @@ use Rattle.crash_steps.specs.Crashes.{NothingNew}
 use Rattle.image_tape.specs.Steps.{IsAlike}
 use Rattle.image_tape.specs.Tape.{AlwaysOpens, CrashesAt, Holds, IsKept, Lie, Stands, Suits, Tells, View, given, held_by, held_of, reading_by}
 use Rattle.image_tape.specs.Writes.{Cuts, HasItems, Hides, IsPlace, Puts, StandBehind, cut_value, put_items}
+use Rattle.image_tape.proofs.Heads.{nowhere}
 use Rattle.image_tape.proofs.Fronts.{all_bytes, fewer_offsets, fewer_records, offset_is, offsets_more, one_more_record}
 use Rattle.image_tape.proofs.Opened.{is_whole, whole}
 use Rattle.image_tape.proofs.RecordLemmas.{end_size}
@@ -97,7 +98,8 @@ abbrev pub records_of : (part : Part) {limits : Limits} {said reads : SlotValue}
 records_of Ip st = st.ip
 records_of Dp st = st.dp
 
-items_are : (part : Part) {limits : Limits} {said reads : SlotValue} {room : Offsets} {leaves : Files → Type 0} {d : Files} (st : Stands limits said reads room leaves d)
+-- the items of a partition are those of its records, and a Torn behind them
+pub items_are : (part : Part) {limits : Limits} {said reads : SlotValue} {room : Offsets} {leaves : Files → Type 0} {d : Files} (st : Stands limits said reads room leaves d)
     → items_of part (whole st) ≡ records_of part st ++ tail_of (half_of part reads).torn
 items_are Ip st = refl
 items_are Dp st = refl
@@ -135,7 +137,7 @@ module _ {D : Type 0} (disk : Ghosts D) where
     base = v.base;
     reads = reads;
     doubt = v.doubt;
-    head = v.head;
+    head = None;
     faults = v.faults;
     opened = v.opened;
     past = v.past;
@@ -156,6 +158,7 @@ module _ {D : Type 0} (disk : Ghosts D) where
         reached = kept.reached;
         always = subst (λ (l : Limits). AlwaysOpens disk l v.opened v.slots.disk) (sym same) kept.always;
         past = kept.past;
+        within = nowhere _;
         tells = λ d is.
             let h = tells_of disk v kept settled d is in
             subst (λ (o : Doubt). Tells o (shaped reads room v) (disk.leaves v.slots.disk) d) (sym settled) (
@@ -364,7 +367,7 @@ module _ {D : Type 0} (disk : Ghosts D) where
         let limits_same : room'.limits ≡ v.room.limits = same_limits at.part _ v.room in
         let kept' = kept_shaped v reads' room' kept settled (short_holds at.part at.pos end place.most) limits_same may in
         let done : Cuts disk at v (shaped reads' room' v) = record {
-          stays = record { limits = limits_same; head = refl; faults = refl; opened = refl };
+          stays = record { limits = limits_same; faults = refl; opened = refl };
           disk_is = refl;
           base = refl;
           vcr = half_number at.part (ended at.pos end false (half_of at.part v.reads)) v.reads;
@@ -386,7 +389,7 @@ module _ {D : Type 0} (disk : Ghosts D) where
     -- nothing to cut
     pub cuts_not : (at : Place) → (half_of at.part v.reads).count < at.pos → Cuts disk at v v
     cuts_not at past = record {
-      stays = record { limits = refl; head = refl; faults = refl; opened = refl };
+      stays = record { limits = refl; faults = refl; opened = refl };
       disk_is = refl;
       base = refl;
       vcr = refl;
@@ -438,7 +441,7 @@ module _ {D : Type 0} (disk : Ghosts D) (part : Part) (a v w : View D) (is : v �
       → OnOk r ((half_of part reads').torn ≡ false) → OnOk r ((half_of part reads').count ≡ (half_of part a.reads).count + 1)
       → Puts disk part x r a (shaped disk reads' room' v)
   puts_by r reads' room' may same number has torn more = record {
-    stays = record { limits = same ∙ hides.stays.limits; head = hides.stays.head; faults = hides.stays.faults; opened = hides.stays.opened };
+    stays = record { limits = same ∙ hides.stays.limits; faults = hides.stays.faults; opened = hides.stays.opened };
     count = hides.count;
     settled = settled;
     untold = λ none. untold_held disk (shaped disk reads' room' v) (none_held disk v kept settled (hides.held ∙ none));

@@ -92,45 +92,6 @@ module _ {D : Type 0} (disk : Ghosts D) where
       → Tells (Open value reads) v (disk.leaves v.slots.disk) d
   opened_tells v value reads kept unsure d is = subst (λ (o : Doubt). Tells o v (disk.leaves v.slots.disk) d) unsure (kept.tells d is)
 
-  -- a tape whose header says the value from before is one with that value
-  pub kept_before : (v : View D) (value reads s : SlotValue) → IsKept disk v → v.doubt ≡ Open value reads → v.slots.known ≡ Steady → IsFound disk v s
-      → s.serial ≡ v.base.serial → IsKept disk (with_doubt Settled v)
-  kept_before v value reads s kept unsure steady found is = record {
-    limits = kept.limits;
-    holds = kept.holds;
-    suits = steady;
-    reached = kept.reached;
-    always = kept.always;
-    past = kept.past;
-    tells = λ d told.
-        let h = opened_tells v value reads kept unsure d told in
-        let same : s ≡ v.base = one_by_number v.room.limits v.base value s d h.2 (found.reads d told) h.4 is in (
-          h.0,
-          subst (λ (x : SlotValue). header v.room.limits d.cm ≡ Some x) same (found.reads d told),
-          λ left was. subst (λ (x : SlotValue). header v.room.limits left.cm ≡ Some x) same (found.left d left told was),
-          subst (λ (x : SlotValue). header_by v.room.limits (Some v.slots.value) ≡ Some x) same found.value,
-        );
-  }
-
-  pub kept_after : (v : View D) (value reads s : SlotValue) → IsKept disk v → v.doubt ≡ Open value reads → v.slots.known ≡ Steady → IsFound disk v s
-      → s.serial ≢ v.base.serial → IsKept disk (with_value value reads (cut_to reads v.room) v)
-  kept_after v value reads s kept unsure steady found isnt = record {
-    limits = kept.limits;
-    holds = subst (λ (o : Doubt). Suits o v) unsure kept.suits;
-    suits = steady;
-    reached = kept.reached;
-    always = kept.always;
-    past = kept.past;
-    tells = λ d told.
-        let h = opened_tells v value reads kept unsure d told in
-        let same : s ≡ value = other_by_number v.room.limits v.base value s d h.2 (found.reads d told) isnt in (
-          h.1,
-          subst (λ (x : SlotValue). header v.room.limits d.cm ≡ Some x) same (found.reads d told),
-          λ left was. subst (λ (x : SlotValue). header v.room.limits left.cm ≡ Some x) same (found.left d left told was),
-          subst (λ (x : SlotValue). header_by v.room.limits (Some v.slots.value) ≡ Some x) same found.value,
-        );
-  }
-
   -- which of the two reads
   says_same : (s base : SlotValue) (o : Option SlotValue) → o ≡ Some s → s.serial ≡ base.serial → says base o ≡ true
   says_same s base o is same = ap (says base) is ∙ eq-eqb s.serial base.serial same
@@ -167,6 +128,48 @@ module _ {D : Type 0} (disk : Ghosts D) where
   held_after v value reads s room unsure found isnt =
       sym (held_in v (Open value reads) unsure (disk.held v.slots.disk) ∙ after_by v value reads s room (disk.held v.slots.disk) found.reads isnt)
 
+  -- a tape whose header says the value from before is one with that value
+  pub kept_before : (v : View D) (value reads s : SlotValue) → IsKept disk v → v.doubt ≡ Open value reads → v.slots.known ≡ Steady → IsFound disk v s
+      → s.serial ≡ v.base.serial → IsKept disk (with_doubt Settled v)
+  kept_before v value reads s kept unsure steady found is = record {
+    limits = kept.limits;
+    holds = kept.holds;
+    suits = steady;
+    reached = kept.reached;
+    always = kept.always;
+    past = kept.past;
+    within = λ at c head told. kept.within at c head (sym (held_before v value reads s unsure found is) ∙ told);
+    tells = λ d told.
+        let h = opened_tells v value reads kept unsure d told in
+        let same : s ≡ v.base = one_by_number v.room.limits v.base value s d h.2 (found.reads d told) h.4 is in (
+          h.0,
+          subst (λ (x : SlotValue). header v.room.limits d.cm ≡ Some x) same (found.reads d told),
+          λ left was. subst (λ (x : SlotValue). header v.room.limits left.cm ≡ Some x) same (found.left d left told was),
+          subst (λ (x : SlotValue). header_by v.room.limits (Some v.slots.value) ≡ Some x) same found.value,
+        );
+  }
+
+  pub kept_after : (v : View D) (value reads s : SlotValue) → IsKept disk v → v.doubt ≡ Open value reads → v.slots.known ≡ Steady → IsFound disk v s
+      → s.serial ≢ v.base.serial → IsKept disk (with_value value reads (cut_to reads v.room) v)
+  kept_after v value reads s kept unsure steady found isnt = record {
+    limits = kept.limits;
+    holds = subst (λ (o : Doubt). Suits o v) unsure kept.suits;
+    suits = steady;
+    reached = kept.reached;
+    always = kept.always;
+    past = kept.past;
+    within = λ at c head told.
+        kept.within at c head (sym (held_after v value reads s (cut_to reads v.room) unsure found isnt) ∙ told);
+    tells = λ d told.
+        let h = opened_tells v value reads kept unsure d told in
+        let same : s ≡ value = other_by_number v.room.limits v.base value s d h.2 (found.reads d told) isnt in (
+          h.1,
+          subst (λ (x : SlotValue). header v.room.limits d.cm ≡ Some x) same (found.reads d told),
+          λ left was. subst (λ (x : SlotValue). header v.room.limits left.cm ≡ Some x) same (found.left d left told was),
+          subst (λ (x : SlotValue). header_by v.room.limits (Some v.slots.value) ≡ Some x) same found.value,
+        );
+  }
+
   -- steps that only read
   pub looks_alike : (v w : View D) → Stays v w → w.slots.disk ≡ v.slots.disk → held_of disk w ≡ held_of disk v
       → ((image : Cartridge) → AheadOn disk v.room.limits w.reads.vcr v.slots.disk image → LeavesOf disk v image) → Looks disk 0 v w
@@ -179,7 +182,7 @@ module _ {D : Type 0} (disk : Ghosts D) where
   }
 
   pub stays_same : (v : View D) → Stays v v
-  stays_same v = record { limits = refl; head = refl; faults = refl; opened = refl }
+  stays_same v = record { limits = refl; faults = refl; opened = refl }
 
   -- where no command is done, the tape was only looked at
   pub no_looks : (v : View D) → Looks disk 0 v v
@@ -189,7 +192,7 @@ module _ {D : Type 0} (disk : Ghosts D) where
   pub looked : (most : ℕ) (v w : View D) (s : slot.View D) → v ≡ w → disk.held s.disk ≡ disk.held v.slots.disk → AtMost most (disk.commands v.slots.disk) (disk.commands s.disk)
       → CrashesIn disk NothingNew v.slots.disk s.disk → Looks disk most w (with_slots s v)
   looked most v w s is held count crash = subst (λ (x : View D). Looks disk most x (with_slots s v)) is (record {
-    stays = record { limits = refl; head = refl; faults = refl; opened = refl };
+    stays = record { limits = refl; faults = refl; opened = refl };
     held = held_look disk v s held;
     count = count;
     crash = lifted_look disk v.room.limits v.reads.vcr v.reads.vcr v.slots.disk s.disk refl held crash;
@@ -200,7 +203,6 @@ module _ {D : Type 0} (disk : Ghosts D) where
   then_looks m n a b c first second = record {
     stays = record {
       limits = second.stays.limits ∙ first.stays.limits;
-      head = second.stays.head ∙ first.stays.head;
       faults = second.stays.faults ∙ first.stays.faults;
       opened = second.stays.opened ∙ first.stays.opened;
     };
@@ -241,7 +243,7 @@ module _ {D : Type 0} (disk : Ghosts D) where
   pub chosen_before : (v w : View D) (value reads s : SlotValue) → v ≡ w → v.doubt ≡ Open value reads → IsFound disk v s → s.serial ≡ v.base.serial
       → Looks disk 0 w (with_doubt Settled v)
   chosen_before v w value reads s is unsure found same = subst (λ (x : View D). Looks disk 0 x (with_doubt Settled v)) is
-      (looks_alike v (with_doubt Settled v) (record { limits = refl; head = refl; faults = refl; opened = refl }) refl
+      (looks_alike v (with_doubt Settled v) (record { limits = refl; faults = refl; opened = refl }) refl
       (held_before v value reads s unsure found same) (λ image left. left))
 
   -- the value that was to be has the reference that reads with it
@@ -265,7 +267,7 @@ module _ {D : Type 0} (disk : Ghosts D) where
       → s.serial ≢ v.base.serial → room ≡ cut_to reads v.room → Looks disk 0 w (with_value value reads room v)
   chosen_after v w value reads s room is kept unsure found isnt cut = subst (λ (x : View D). Looks disk 0 x (with_value value reads room v)) is
       (looks_alike v (with_value value reads room v)
-      (record { limits = ap (λ (r : Offsets). r.limits) cut; head = refl; faults = refl; opened = refl }) refl
+      (record { limits = ap (λ (r : Offsets). r.limits) cut; faults = refl; opened = refl }) refl
       (held_after v value reads s room unsure found isnt) (left_after v value reads s kept unsure found isnt))
 
   -- a tape is still one after a command that only reads the disk

@@ -20,7 +20,7 @@ use Rattle.image_tape.specs.declared.doubt.Doubt.TheVariants.{Settled, Open}
 use Rattle.image_tape.specs.Ends.{IsSure}
 use Rattle.image_tape.specs.Halves.{half_of}
 use Rattle.image_tape.specs.Steps.{IsSteady}
-use Rattle.image_tape.specs.Tape.{AreEarlier, IsKept, LeavesOf, LeavesOn, Suits, Tells, View, given, held_by, held_of, reading_by, with_reference}
+use Rattle.image_tape.specs.Tape.{AreEarlier, IsKept, IsWithin, LeavesOf, LeavesOn, Suits, Tells, View, given, held_by, held_of, reading_by, with_reference}
 use Rattle.image_tape.proofs.Lifting.{same_cartridge, same_reference}
 use Rattle.image_tape.proofs.Opened.{agreed_opens, counted, is_whole, whole}
 
@@ -142,16 +142,23 @@ module _ {D : Type 0} (disk : Ghosts D) where
   tells_in v head faults past Settled d h = h
   tells_in v head faults past (Open value reads) d h = h
 
+  held_lost : (v : View D) (head : Option Place) (faults : ℕ) (past : List (ℕ × slot.View D)) (o : Option Files)
+      → held_by (lost v head faults past) o ≡ held_by v o
+  held_lost v head faults past None = refl
+  held_lost v head faults past (Some d) = refl
+
   -- the head stands elsewhere, or a fault more is counted; and other moments are past
   pub kept_head : (v : View D) (head : Option Place) (faults : ℕ) (past : List (ℕ × slot.View D)) → IsKept disk v
-      → AreEarlier disk past (disk.commands v.slots.disk) → IsKept disk (lost v head faults past)
-  kept_head v head faults past kept early = record {
+      → AreEarlier disk past (disk.commands v.slots.disk) → IsWithin (held_of disk v) head
+      → IsKept disk (lost v head faults past)
+  kept_head v head faults past kept early within = record {
     limits = kept.limits;
     holds = kept.holds;
     suits = suits_in v head faults past v.doubt kept.suits;
     reached = kept.reached;
     always = kept.always;
     past = early;
+    within = λ at c is told. within at c is (sym (held_lost v head faults past (disk.held v.slots.disk)) ∙ told);
     tells = λ d is. tells_in v head faults past v.doubt d (kept.tells d is);
   }
 

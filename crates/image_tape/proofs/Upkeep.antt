@@ -97,6 +97,10 @@ held_over v s None = refl
 held_over v s (Some d) = refl
 
 module _ {D : Type 0} (disk : Ghosts D) where
+  -- a tape over a disk that reads as before has the same cartridge
+  pub held_look : (v : View D) (s : slot.View D) → disk.held s.disk ≡ disk.held v.slots.disk → held_of disk (with_slots s v) ≡ held_of disk v
+  held_look v s held = held_over v s (disk.held s.disk) ∙ ap (λ (o : Option Files). held_by v o) held
+
   -- after commands that only read
   pub kept_look : (v : View D) (s : slot.View D) → IsKept disk v → (v.doubt ≡ Settled → s.known ≡ v.slots.known)
       → (v.doubt ≡ Settled → s.value ≡ v.slots.value) → disk.held s.disk ≡ disk.held v.slots.disk
@@ -118,10 +122,7 @@ module _ {D : Type 0} (disk : Ghosts D) where
               (image_opens v.doubt v (disk.leaves v.slots.disk) e (kept.tells e was) before left_before),
         ));
     past = earlier_on disk v.past (disk.commands v.slots.disk) (disk.commands s.disk) later kept.past;
+    within = λ at c head told. kept.within at c head (sym (held_look v s held) ∙ told);
     tells = λ d is.
         tells_less v.doubt v s (disk.leaves v.slots.disk) (disk.leaves s.disk) d value (old_image crash) (kept.tells d (sym held ∙ is));
   }
-
-  -- a tape over a disk that reads as before has the same cartridge
-  pub held_look : (v : View D) (s : slot.View D) → disk.held s.disk ≡ disk.held v.slots.disk → held_of disk (with_slots s v) ≡ held_of disk v
-  held_look v s held = held_over v s (disk.held s.disk) ∙ ap (λ (o : Option Files). held_by v o) held

@@ -185,7 +185,6 @@ module _ {D : Type 0} (disk : Ghosts D) where
   stored_after r m n a b c first second = record {
     stays = record {
       limits = second.stays.limits ∙ first.stays.limits;
-      head = second.stays.head ∙ first.stays.head;
       faults = second.stays.faults ∙ first.stays.faults;
       opened = second.stays.opened ∙ first.stays.opened;
     };

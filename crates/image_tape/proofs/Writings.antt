@@ -13,7 +13,7 @@ use Rattle.tape_types.specs.declared.cartridges.Place.{Place}
 use Rattle.tape_drive.specs.Commands.{AfterWrite, IsBroken, KeepsRest}
 use Rattle.tape_drive.specs.Crashes.{WithinWrite}
 use Rattle.byte_disk.specs.declared.disk.ByteDisk.{Ghosts}
-use Rattle.image_slots.proofs.Chains.{more_at_most, then_at_most}
+use Rattle.image_slots.proofs.Chains.{more_at_most, no_step, then_at_most}
 use Rattle.image_slots.specs.Pieces.{AtMost}
 use Rattle.image_tape.specs.Steps.{Looks, Stays}
 use Rattle.image_tape.specs.Tape.{CrashesAt, CrashesOn, View}
@@ -29,7 +29,6 @@ then_rest part a b c one two = record {
 then_stays : {D : Type 0} (a b c : View D) → Stays a b → Stays b c → Stays a c
 then_stays a b c one two = record {
   limits = two.limits ∙ one.limits;
-  head = two.head ∙ one.head;
   faults = two.faults ∙ one.faults;
   opened = two.opened ∙ one.opened;
 }
@@ -130,6 +129,17 @@ not_written disk at x why a b rise = record {
   told = λ c held. let m = rise.told c held in (m.0, m.1, after_no_rise at.part at.pos c m.0 m.2);
   at_end = rise.at_end;
   crash = λ c held. rise.crash x c held;
+}
+
+-- where nothing was tried, nothing was written
+pub nothing_written : {D T E : Type 0} (disk : Ghosts D) (at : Place) (x : Item) (why : E) (v : View D) → Writes {T = T} disk 10 at x (Err why) v v
+nothing_written disk at x why v = record {
+  stays = record { limits = refl; faults = refl; opened = refl };
+  count = record { later = omega arith; bound = omega arith };
+  untold = λ none. none;
+  told = λ c held. (c, held, record { items = inl (refl, inl refl); rest = record { other_part = refl; note_ip = refl; note_dp = refl } });
+  at_end = λ c held most. (refl, held);
+  crash = λ c held. no_step (disk.commands v.slots.disk) _ _ (λ image left. still at.part at.pos x c image);
 }
 
 -- behind what only reads

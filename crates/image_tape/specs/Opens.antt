@@ -1,8 +1,9 @@
 -- What opening a tape finds.
-use Rattle.std.specs.Prelude.{ℕ, ◌≡◌, List, length, Some, None, Ok, Err}
+use Rattle.std.specs.Prelude.{ℕ, ◌≤◌, ◌≡◌, List, length, Some, None, Ok, Err}
 use Rattle.tape_types.specs.declared.cartridges.Cartridge.{Cartridge}
 use Rattle.tape_types.specs.declared.cartridges.Item.{Item}
 use Rattle.tape_types.specs.declared.cartridges.Limits.{Limits}
+use Rattle.crash_steps.specs.Crashes.{NothingNew}
 use Rattle.byte_disk.specs.Files.{Files}
 use Rattle.byte_disk.specs.declared.disk.ByteDisk.{Ghosts}
 use Rattle.tape_types.specs.Counts.{IsRise, Rose}
@@ -10,6 +11,8 @@ use Rattle.image_format.specs.declared.refusal.ReadErr.{ReadErr}
 use Rattle.image_format.specs.declared.refusal.ReadErr.TheVariants as read
 use Rattle.image_slots.specs.declared.errors.OpenErr as slots
 use Rattle.image_slots.specs.declared.errors.OpenErr.TheVariants as slot_errors
+use Rattle.image_slots.specs.Calls.{WithinOpen}
+use Rattle.image_slots.specs.Pieces.{CrashesIn}
 use Rattle.image_slots.specs.State as slot
 use Rattle.image_format.specs.declared.refusal.Refusal.TheVariants as refusal
 use Rattle.image_tape.specs.declared.errors.OpenErr.{OpenErr}
@@ -37,12 +40,20 @@ pub record IsTellable {D : Type 0} (disk : Ghosts D) (limits : Limits) (s : slot
       (ip dp : List Item) × AreRecords value.ip d.ip ip × AreRecords value.dp d.dp dp
       × (room.ip ≡ offsets_from 0 ip) × (room.dp ≡ offsets_from 0 dp)
 
--- the tape that was opened over a disk
+-- commands of a disk that only read leave nothing new to a crash
+pub record HasLooked {D : Type 0} (disk : Ghosts D) (old new : D) : Type 0 where
+  pub later : disk.commands old ≤ disk.commands new
+  pub crash : CrashesIn disk NothingNew old new
+
+-- The tape that was opened over a disk. A crash meanwhile leaves nothing new, or of a blank disk one that stores the
+-- first value.
 pub record HasOpened {D : Type 0} (disk : Ghosts D) (limits : Limits) (old : D) (t : View D) : Type 0 where
   pub limits_are : t.room.limits ≡ limits
   pub head : t.head ≡ None
   pub faults : t.faults ≡ 0
   pub opened : t.opened ≡ disk.commands t.slots.disk
+  pub later : disk.commands old ≤ disk.commands t.slots.disk
+  pub crash : (d : Files) → disk.held old ≡ Some d → CrashesIn disk WithinOpen old t.slots.disk
   pub untold : disk.held old ≡ None → disk.held t.slots.disk ≡ None
   pub told : (d : Files) → disk.held old ≡ Some d → (c : Cartridge) × (image limits d ≡ Ok c)
       × (held_of disk t ≡ Some c)
@@ -60,9 +71,12 @@ HasFault before now Header = Unit {0}
 HasFault before now (Record part n) = Unit {0}
 HasFault before now (Disk counts) = IsRise before now counts.before counts.after
 
--- why no tape was opened, and that the files mean what they meant
+-- Why no tape was opened, and that the files mean what they meant. A crash meanwhile leaves what one leaves of an
+-- opening.
 pub record IsRefused {D : Type 0} (disk : Ghosts D) (limits : Limits) (why : OpenErr) (old new : D) : Type 0 where
   pub told : (d : Files) → disk.held old ≡ Some d → RefusedAs limits d why
+  pub later : disk.commands old ≤ disk.commands new
+  pub crash : (d : Files) → disk.held old ≡ Some d → CrashesIn disk WithinOpen old new
   pub untold : disk.held old ≡ None → disk.held new ≡ None
   pub left : (d : Files) → disk.held old ≡ Some d
       → (e : Files) × (disk.held new ≡ Some e) × (image limits e ≡ image limits d)

@@ -36,7 +36,6 @@ pub record Keeps {D : Type 0} (old new : View D) : Type 0 where
 -- what no step changes
 pub record Stays {D : Type 0} (old new : View D) : Type 0 where
   pub limits : new.room.limits ≡ old.room.limits
-  pub head : new.head ≡ old.head
   pub faults : new.faults ≡ old.faults
   pub opened : new.opened ≡ old.opened
 

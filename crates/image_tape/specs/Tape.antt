@@ -3,7 +3,7 @@ use Rattle.std.specs.Prelude.{ℕ, ◌+◌, ◌-◌, ◌^◌, ◌≤◌, ◌<◌
 use Rattle.std.specs.Prelude.{length}
 use Rattle.std.specs.Prelude.{Option, Some, None, Result, Ok, Err}
 use Rattle.std.specs.List.{flat_map}
-use Rattle.tape_types.specs.Cartridges.{IsLimits}
+use Rattle.tape_types.specs.Cartridges.{IsLimits, items_of}
 use Rattle.tape_types.specs.Counts.{Rose}
 use Rattle.tape_types.specs.declared.cartridges.Cartridge.{Cartridge}
 use Rattle.tape_types.specs.declared.cartridges.Item.{Item}
@@ -201,6 +201,10 @@ abbrev pub AlwaysOpens : {D : Type 0} → Ghosts D → Limits → ℕ → D → 
 AlwaysOpens disk limits since b = (d : Files) → disk.held b ≡ Some d → since < 2 ^ 64 - 1
     → (image : Files) → disk.left_since b since image → (c : Cartridge) × Opens limits image c
 
+-- the head stands at an item that reads, or behind the last one
+abbrev pub IsWithin : Option Cartridge → Option Place → Type 0
+IsWithin held head = (at : Place) (c : Cartridge) → head ≡ Some at → held ≡ Some c → at.pos ≤ length (items_of at.part c)
+
 -- what is true of every tape
 pub record IsKept {D : Type 0} (disk : Ghosts D) (v : View D) : Type 0 where
   pub limits : IsLimits v.room.limits
@@ -209,4 +213,5 @@ pub record IsKept {D : Type 0} (disk : Ghosts D) (v : View D) : Type 0 where
   pub reached : v.opened ≤ disk.commands v.slots.disk
   pub always : AlwaysOpens disk v.room.limits v.opened v.slots.disk
   pub past : AreEarlier disk v.past (disk.commands v.slots.disk)
+  pub within : IsWithin (held_of disk v) v.head
   pub tells : (d : Files) → disk.held v.slots.disk ≡ Some d → Tells v.doubt v (disk.leaves v.slots.disk) d

@@ -14,7 +14,7 @@ ghost use Rattle.image_tape.specs.declared.doubt.Doubt.TheVariants.{Settled};
 ghost use Rattle.image_tape.specs.Ends.{Flushed, HasRead, IsEnded, IsFailed, IsLooked, IsSure, Noted, Wrote};
 ghost use Rattle.image_tape.specs.Halves.{half_of};
 ghost use Rattle.image_tape.specs.Steps.{IsSteady};
-ghost use Rattle.image_tape.specs.Tape.{AreEarlier, Remembers, held_of};
+ghost use Rattle.image_tape.specs.Tape.{AreEarlier, IsWithin, Remembers, held_of};
 
 use crate::doubt::Doubt;
 use crate::halves::half_of;
@@ -36,6 +36,7 @@ impl<B: ByteDisk> ImageTape<B> {
 
     // A command that changes nothing. Where it succeeds the head stands there.
     fn look(&mut self, head: Option<Place>) -> Result<(), DriveErr>
+        requires { IsWithin (held_of B.ByteDisk self.old) head }
         ensures looked { IsLooked B.ByteDisk result self.old self.new }
         ensures head { OnOk result (self.new.head ≡ head) }
         ensures settled { OnOk result (self.new.doubt ≡ Settled) }
@@ -83,7 +84,8 @@ impl<B: ByteDisk> ImageTape<B> {
 
     // Ends a command that succeeded. The head stands there.
     fn end(&mut self, head: Option<Place>, past: Log<u64, Slots<B>>)
-        requires { AreEarlier B.ByteDisk past.items (B.commands self.old.slots.disk) }
+        requires early { AreEarlier B.ByteDisk past.items (B.commands self.old.slots.disk) }
+        requires within { IsWithin (held_of B.ByteDisk self.old) head }
         ensures { IsEnded B.ByteDisk head past.items self.old self.new }
     {
         // The number of commands is in its range.
@@ -106,6 +108,7 @@ impl<B: ByteDisk> ImageTape<B> {
 
     // Reads the item at a place.
     fn read_item(&mut self, at: Place, buf: &mut Vec<u8>) -> Result<Got, DriveErr>
+        requires within { IsWithin (held_of B.ByteDisk self.old) (Some at) }
         requires room { 1048576 ≤ vec_capacity buf.old }
         ensures room { 1048576 ≤ vec_capacity buf.new }
         ensures ran { HasRead B.ByteDisk at result buf.new.items self.old self.new }
@@ -157,6 +160,7 @@ impl<B: ByteDisk> ImageTape<B> {
 
     // Writes an item at a place.
     fn put_item(&mut self, at: Place, head: Head, bytes: &[u8]) -> Result<(), DriveErr>
+        requires within { IsWithin (held_of B.ByteDisk self.old) (Some at) }
         requires room { at.pos < capacity at.part self.old.room.limits }
         requires head { IsHead head }
         requires size { length bytes.now ≤ 1048576 }

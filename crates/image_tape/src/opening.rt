@@ -7,7 +7,7 @@ ghost use Rattle.image_slots.specs.State.{IsOver};
 ghost use Rattle.image_slots.specs.declared.known.Known.TheVariants.{Steady};
 ghost use Rattle.image_format.specs.Reading.{IsRead};
 ghost use Rattle.image_tape.specs.declared.doubt.Doubt.TheVariants.{Settled};
-ghost use Rattle.image_tape.specs.Opens.{AreSynced, HasOpened, IsReason, IsRefused, IsTellable};
+ghost use Rattle.image_tape.specs.Opens.{AreSynced, HasLooked, HasOpened, IsReason, IsRefused, IsTellable};
 ghost use Rattle.image_tape.specs.Opens.{header_reason, reason_of};
 
 use crate::commits::Commits;
@@ -127,6 +127,7 @@ fn read_synced<B: ByteDisk>(slots: &mut Slots<B>, room: &mut Room) -> Result<Slo
     ensures held { B.held slots.new.disk ≡ B.held slots.old.disk }
     ensures steady { slots.new.known ≡ Steady }
     ensures limits { room.new.limits ≡ room.old.limits }
+    ensures looked { HasLooked B.ByteDisk slots.old.disk slots.new.disk }
     ensures faults { B.faults slots.old.disk ≤ B.faults slots.new.disk }
     ensures cause { IfErr result (IsReason (B.faults slots.old.disk) (B.faults slots.new.disk)) }
 {
@@ -161,6 +162,7 @@ fn sync_both<B: ByteDisk>(slots: &mut Slots<B>) -> Result<(), DiskFault>
     ensures synced { OnOk result (AreSynced B.ByteDisk slots.new) }
     ensures over { IsOver slots.old slots.new }
     ensures held { B.held slots.new.disk ≡ B.held slots.old.disk }
+    ensures looked { HasLooked B.ByteDisk slots.old.disk slots.new.disk }
     ensures cause { HasCause (B.faults slots.old.disk) (B.faults slots.new.disk) result }
 {
     if let Err(fault) = slots.sync(Part::Ip) {

@@ -143,11 +143,13 @@ impl<B: ByteDisk> ImageTape<B> {
                 cut_to(&reads, &mut self.room);
                 self.base = value;
                 self.reads = reads;
+                self.head = None;
                 Ok(())
             }
             Err(SetErr::Serial) => Err(DriveErr::Failed),
             Err(SetErr::Disk) => {
                 self.doubt = Doubt::Open { value, reads };
+                self.head = None;
                 Err(DriveErr::Failed)
             }
         }

@@ -1,5 +1,5 @@
 // Items are written.
-ghost use Rattle.std.specs.Prelude.{◌≡◌, ◌≤◌, ◌<◌, ◌+◌, ◌^◌, ◌++◌, length, IfSome, IfNone, OnOk, Some, None};
+ghost use Rattle.std.specs.Prelude.{◌≡◌, ◌≤◌, ◌<◌, ◌+◌, ◌^◌, ◌++◌, length, IfSome, IfNone, IsErr, OnOk, Some, None};
 ghost use Rattle.tape_types.specs.Cartridges.{IsItem, capacity};
 ghost use Rattle.tape_types.specs.declared.cartridges.Item.{Item};
 ghost use Rattle.byte_disk.specs.Files.{Files, bytes_of};
@@ -10,6 +10,7 @@ ghost use Rattle.image_tape.specs.Blames.{AreSpent, IsBlamed, Never};
 ghost use Rattle.image_tape.specs.declared.doubt.Doubt.TheVariants.{Settled};
 ghost use Rattle.image_tape.specs.Halves.{half_of};
 ghost use Rattle.image_tape.specs.Steps.{IsAlike};
+ghost use Rattle.image_tape.specs.Tape.{IsWithin, held_of};
 ghost use Rattle.image_tape.specs.Writes.{Appends, Cuts, Fills, FollowsIn, Hides, IsCounted, IsPlace, IsUncounted};
 ghost use Rattle.image_tape.specs.Writes.{Puts, Replaces, Rises, StandBehind, Writes};
 
@@ -22,17 +23,25 @@ use tape_drive::DriveErr;
 use tape_types::{Part, Place};
 
 impl<B: ByteDisk> ImageTape<B> {
-    // Cuts a partition at a place, and appends an item.
+    // Cuts a partition at a place, and appends an item. It fails where positions in front of the place have none.
     pub(crate) fn write_at(&mut self, at: Place, head: Head, bytes: &[u8]) -> Result<(), DriveErr>
         requires settled { self.old.doubt ≡ Settled }
+        requires within { IsWithin (held_of B.ByteDisk self.old) (Some at) }
         requires room { at.pos < capacity at.part self.old.room.limits }
         requires head { IsHead head }
         requires size { length bytes.now ≤ 1048576 }
         requires sound { (x : Item) × IsItem x × (record_bytes x ≡ head_bytes head ++ bytes.now) }
+        ensures gap { (half_of at.part self.old.reads).count + flag (half_of at.part self.old.reads).torn < at.pos
+            → IsErr result }
         ensures writes { (x : Item) → IsItem x → record_bytes x ≡ head_bytes head ++ bytes.now
             → Writes B.ByteDisk 10 at x result self.old self.new }
         ensures blamed { IsBlamed B.ByteDisk AreSpent result self.old self.new }
     {
+        // What is kept of the files tells what they hold.
+        let _kept = self.doubt;
+        if self.count(at.part) < at.pos {
+            return Err(DriveErr::Failed);
+        }
         match self.rise(at) {
             Ok(()) => self.replace(at, head, bytes),
             Err(why) => Err(why),
@@ -78,6 +87,7 @@ impl<B: ByteDisk> ImageTape<B> {
                 Commits::Each => self.commit(base, reads),
                 Commits::AtFlush => {
                     self.reads = reads;
+                    self.head = None;
                     Ok(())
                 }
             },
@@ -107,6 +117,7 @@ impl<B: ByteDisk> ImageTape<B> {
         if let Some(end) = self.end_at(at) {
             self.room.cut(at.part, at.pos);
             self.reads = ended(at.part, at.pos, end, false, &self.reads);
+            self.head = None;
         }
     }
 
@@ -174,11 +185,13 @@ impl<B: ByteDisk> ImageTape<B> {
                 let more = end.saturating_add(5 + bytes.len() as u64);
                 self.room.push(part, end);
                 self.reads = ended(part, count.saturating_add(1), more, false, &self.reads);
+                self.head = None;
                 Ok(())
             }
             Err(why) => {
                 let Half { count, end, .. } = half_of(part, &self.reads);
                 self.reads = ended(part, count, end, true, &self.reads);
+                self.head = None;
                 Err(why)
             }
         }
