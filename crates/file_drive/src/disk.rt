@@ -14,8 +14,8 @@ use tape_types::NoMemory;
 /// The first command opens the folder, and claims it: for this program alone, or beside others that write nothing
 /// either. A command fails where the system refuses a call, where a range isn't within its file, where one of the three
 /// is no regular file, and where it would write under a claim that is shared. A write fails where somebody else has cut
-/// the file, and a sync of `cm.img` behind a write where one of the three isn't found as it was left. Each sync after one
-/// that failed fails.
+/// the file; the first one, and a sync of `cm.img` behind it, fails where one of the three isn't found as it was left.
+/// Each sync after one that failed fails.
 #[derive(Drop)]
 pub struct FolderDisk<R: FolderCalls> {
     folder: Folder<R>,

@@ -45,6 +45,15 @@ impl<R: FolderCalls> FileDrive<R> {
         })
     }
 
+    /// Claims the folder before the first command. Where that fails, the first command tries again.
+    pub fn claim_now(&mut self)
+        ensures head { self.new.head ≡ self.old.head }
+        ensures faults { self.new.faults ≡ self.old.faults }
+        ensures commands { self.new.commands ≡ self.old.commands }
+    {
+        self.stage.claim_now();
+    }
+
     fn begin(&mut self)
         ensures head { self.new.head ≡ self.old.head }
         ensures faults { self.new.faults ≡ self.old.faults }

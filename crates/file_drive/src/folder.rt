@@ -20,8 +20,8 @@ pub struct Folder<R: FolderCalls> {
     files: ImageFiles<R>,
     /// Whether it is durable which files the folder has. Nothing is written to a file before that.
     is_listed: bool,
-    /// Whether its first file was made last. Then the folder may be new itself.
-    is_new: bool,
+    /// Whether it is durable that the folder is there, as far as the system makes that so.
+    is_placed: bool,
     /// Whether a sync has failed. What the system has stored since then isn't known.
     is_unsure: bool,
 }
@@ -36,7 +36,7 @@ impl<R: FolderCalls> Folder<R> {
             claimed: None,
             files,
             is_listed: false,
-            is_new: false,
+            is_placed: false,
             is_unsure: false,
         })
     }
@@ -117,11 +117,11 @@ impl<R: FolderCalls> Folder<R> {
         };
         self.files.of_mut(file).found(Some(made));
         self.is_listed = false;
-        self.is_new = matches!(file, File::Cm);
         Ok(())
     }
 
-    // Makes durable which files the folder has, if it isn't so.
+    // Makes durable which files the folder has, if it isn't so, and at first that it is there. Fails where another file
+    // has come in place of one.
     fn list(&mut self) -> io::Result<()> {
         if self.is_listed {
             return Ok(());
@@ -129,12 +129,14 @@ impl<R: FolderCalls> Folder<R> {
         if self.is_unsure {
             return Err(ErrorKind::Other.into());
         }
+        self.files.look(&self.rt)?;
         let synced = match &self.claimed {
-            Some(folder) if self.is_new => folder.sync_with_parent(&self.rt),
-            Some(folder) => folder.sync(),
+            Some(folder) if self.is_placed => folder.sync(),
+            Some(folder) => folder.sync_with_parent(&self.rt),
             None => Err(ErrorKind::NotFound.into()),
         };
         self.is_listed = synced.is_ok();
+        self.is_placed = self.is_placed || self.is_listed;
         self.is_unsure = synced.is_err();
         synced
     }
