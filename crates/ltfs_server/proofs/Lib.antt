@@ -1,10 +1,13 @@
 pub mod Acknowledged
 pub mod Asked
 mod ClosedRuns
+mod DoneReplies
 pub mod EndedRuns
 pub mod FencedLemmas
 pub mod MakeClauses
+pub mod HandedBack
 pub mod MakeSteps
+pub mod PrintedEnds
 pub mod Readiness
 pub mod Sentences
 pub mod ServeClauses

@@ -102,7 +102,7 @@ module _ {D : Type 0} (drive : Ghosts D) (moment : Option Moment) (count : ℕ) 
   by_log (Some log) end whole wanted status_is (inr told) = does drive moment count start now log sink status whole.limits whole.untold (starved log) whole.run refl told
 
 -- what came of a made script, and was told, is what `make` promises
-pub make_told : {D : Type 0} (drive : Ghosts D) (moment : Option Moment) (count : ℕ) (sink : Written) (status : ℕ) (start new : D) (s : Served D) (result : Option Log)
+pub make_told : {D K : Type 0} (drive : Ghosts D) (moment : Option Moment) (count : ℕ) (sink : Written) (status : ℕ) (start new : D) (s : Served D K) (result : Option Log)
     → Whole drive start moment (made_script count) s → new ≡ s.drive → result ≡ s.log → (wanted : ℕ) → wanted ≡ end_status s.end
     → IsTold wanted (closed_line s.log s.end) sink status ⊎ IsTold 7 (codes "memory\n") sink status → DoesMake moment count drive start new sink status result
 make_told drive moment count sink status start new s result whole back same wanted status_is told =

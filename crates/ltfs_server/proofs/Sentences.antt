@@ -20,7 +20,7 @@ use Rattle.ltfs_server.specs.Outcomes.{Run}
 use Rattle.ltfs_server.specs.Sentence.{AreNodesTold, Asked, Asks, IsClosedSo, IsScriptAsked, IsWantPrinted, Sentence, SentenceHolds, to_make, to_serve, told_text}
 use Rattle.commands.proofs.BasicCommands.Told.{none_of}
 use Rattle.session_run.specs.Timed.{one_moment}
-use Rattle.ltfs_server.specs.Serving.{IsServedEnd, ServedEnd, served, served_log, served_status, served_text, unclosed, unscripted, unserved, unwritten}
+use Rattle.ltfs_server.specs.Serving.{IsServedEnd, ServedEnd, served, served_log, served_status, served_text, unclosed, unscripted, unserved}
 
 -- ---- statuses
 
@@ -118,9 +118,6 @@ module _ {D : Type 0} (moment : Option Moment) (source : Taken) (drive : Ghosts 
       by (unclosed l) is log_is told = holds_of to_serve moment source drive old new sink status l log log_is
           (starves to_serve moment source drive old new sink status l
           (record { script = is.script; is_asked = record { spelled = is.spelled; whole = is.whole }; run = is.run }) (log_text l ++ codes "memory\n") (λ a. inr a) told)
-      by (unwritten l) is log_is told = holds_of to_serve moment source drive old new sink status l log log_is
-          (starves to_serve moment source drive old new sink status l
-          (record { script = is.script; is_asked = record { spelled = is.spelled; whole = is.whole }; run = is.run }) (codes "memory\n") (λ a. inl a) told)
 
   pub make_holds : (count : ℕ) → DoesMake moment count drive old new sink status log → SentenceHolds (to_make count) moment source drive old new sink status log
   make_holds count does = by does.told.0 does.told.1 does.told.2.0 does.told.2.1

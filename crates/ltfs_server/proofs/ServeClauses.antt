@@ -21,7 +21,7 @@ use Rattle.commands.specs.BasicCommands.Promises.{ReadsAsNone}
 use Rattle.ltfs_server.specs.Promises.{DoesServe}
 use Rattle.commands.specs.BasicCommands.Runs.{IsOneOf, Taken, Written}
 use Rattle.session_run.specs.Serving.{HoldsTree}
-use Rattle.ltfs_server.specs.Serving.{IsClosePrinted, IsFailurePrinted, IsRefusedPrinted, IsServedEnd, IsServedRun, IsServedTo, IsShortPrinted, ServedEnd, served, served_log, served_status, served_text, unclosed, unscripted, unserved, unwritten}
+use Rattle.ltfs_server.specs.Serving.{IsClosePrinted, IsFailurePrinted, IsRefusedPrinted, IsServedEnd, IsServedRun, IsServedTo, IsShortPrinted, ServedEnd, served, served_log, served_status, served_text, unclosed, unscripted, unserved}
 use Rattle.commands.specs.declared.basic_commands.scripts.Unread.TheVariants as unread
 use Rattle.ltfs_server.proofs.EndedRuns.{done_or_refused, failed_rose}
 use Rattle.commands.proofs.BasicCommands.MountClauses.{blamed, drive_told, found_done, memory_told, mount_isnt, mount_known}
@@ -50,7 +50,6 @@ status_is (served log (Closed generation)) = inl refl
 status_is (served log (Short need limit)) = inr (inr (inr (inr (inr (inr (inr (inl refl)))))))
 status_is (served log (Failed counts)) = inr (inr (inr (inl refl)))
 status_is (unclosed log) = inr (inr (inr (inr (inr (inr (inl refl))))))
-status_is (unwritten log) = inr (inr (inr (inr (inr (inr (inl refl))))))
 
 not_six : (end : ServedEnd) → served_status end ≡ 6 → ⊥
 not_six (unscripted (unread.Script refusal)) six = absurd (cc six)
@@ -61,7 +60,6 @@ not_six (served log (Closed generation)) six = absurd (cc six)
 not_six (served log (Short need limit)) six = absurd (cc six)
 not_six (served log (Failed counts)) six = absurd (cc six)
 not_six (unclosed log) six = absurd (cc six)
-not_six (unwritten log) six = absurd (cc six)
 
 among_none : {A : Type 0} (n : ℕ) → (n ≡ 2 → ⊥) → (n ≡ 3 → ⊥) → (n ≡ 5 → ⊥) → IsOneOf n (2 ∷ 3 ∷ 5 ∷ []) → A
 among_none n two three five (inl is) = absurd (two is)
@@ -76,7 +74,6 @@ refused_none (served log (Closed generation)) one = among_none 0 (λ x. cc x) (�
 refused_none (served log (Short need limit)) one = among_none 8 (λ x. cc x) (λ x. cc x) (λ x. cc x) one
 refused_none (served log (Failed counts)) one = among_none 4 (λ x. cc x) (λ x. cc x) (λ x. cc x) one
 refused_none (unclosed log) one = among_none 7 (λ x. cc x) (λ x. cc x) (λ x. cc x) one
-refused_none (unwritten log) one = among_none 7 (λ x. cc x) (λ x. cc x) (λ x. cc x) one
 
 -- ---- what it comes to
 
@@ -92,7 +89,6 @@ module _ {D : Type 0} (drive : Ghosts D) (old new : D) (moment : Option Moment) 
   log_is (unserved e) is = tt
   log_is (served log end) is = run_of log end is.1
   log_is (unclosed log) is = is
-  log_is (unwritten log) is = is
 
   -- an input that is no script
   none_spelled : {A : Type 0} (text : List ℕ) (script : List ScriptLine) → IfSome source.left (λ t. script_of t ≡ Ok script) → source.left ≡ Some text → IsErr (script_of text) → A
@@ -106,7 +102,6 @@ module _ {D : Type 0} (drive : Ghosts D) (old new : D) (moment : Option Moment) 
   no_script (unserved e) text is left bad = none_spelled text is.0.0 is.0.1.spelled left bad
   no_script (served log end) text is left bad = none_spelled text is.1.script is.1.spelled left bad
   no_script (unclosed log) text is left bad = inr (inr (inr (inl refl)))
-  no_script (unwritten log) text is left bad = inr (inr (inr (inl refl)))
 
   -- a cartridge that reads as no tree
   no_tree : (end : ServedEnd) (c : Cartridge) → Ends end → drive.held old ≡ Some c → ReadsAsNone c → IsOneOf (served_status end) (2 ∷ 3 ∷ 4 ∷ 5 ∷ 6 ∷ 7 ∷ [])
@@ -117,7 +112,6 @@ module _ {D : Type 0} (drive : Ghosts D) (old new : D) (moment : Option Moment) 
   no_tree (served log end) c is held none =
       let found = subst HoldsTree held is.0 in absurd (none found.0 found.1 found.2 found.3)
   no_tree (unclosed log) c is held none = inr (inr (inr (inr (inr (inl refl)))))
-  no_tree (unwritten log) c is held none = inr (inr (inr (inr (inr (inl refl)))))
 
   all_done : (end : ServedEnd) (text : List ℕ) (c : Cartridge) → Ends end → ¬ (Rose source.before source.now) → ¬ (Rose (drive.faults old) (drive.faults new))
       → source.left ≡ Some text → IsOk (script_of text) → drive.held old ≡ Some c → Found c → IsOneOf (served_status end) (0 ∷ 7 ∷ 8 ∷ [])
@@ -132,7 +126,6 @@ module _ {D : Type 0} (drive : Ghosts D) (old new : D) (moment : Option Moment) 
   all_done (served log (Short need limit)) text c is quiet still left good held found = inr (inr (inl refl))
   all_done (served log (Failed counts)) text c is quiet still left good held found = absurd (still (failed_rose drive old new moment is.1.script log counts is.1.run))
   all_done (unclosed log) text c is quiet still left good held found = inr (inl refl)
-  all_done (unwritten log) text c is quiet still left good held found = inr (inl refl)
 
   module _ (sink : Written) (log : Option Log) where
     abbrev Said : ServedEnd → ℕ → Type 0
@@ -148,7 +141,6 @@ module _ {D : Type 0} (drive : Ghosts D) (old new : D) (moment : Option Moment) 
     close_told (served l (Short need limit)) same is told = absurd (cc told.0)
     close_told (served l (Failed counts)) same is told = absurd (cc told.0)
     close_told (unclosed l) same is told = absurd (cc told.0)
-    close_told (unwritten l) same is told = absurd (cc told.0)
 
     short_told : (end : ServedEnd) → log ≡ served_log end → Ends end → Said end 8 → IsShortPrinted drive old new moment source sink log
     short_told (unscripted (unread.Script refusal)) same is told = absurd (cc told.0)
@@ -160,7 +152,6 @@ module _ {D : Type 0} (drive : Ghosts D) (old new : D) (moment : Option Moment) 
         subst (IsShortPrinted drive old new moment source sink) (sym same) (need, limit, (is.1, told.1))
     short_told (served l (Failed counts)) same is told = absurd (cc told.0)
     short_told (unclosed l) same is told = absurd (cc told.0)
-    short_told (unwritten l) same is told = absurd (cc told.0)
 
     failure_told : (end : ServedEnd) → log ≡ served_log end → Ends end → Said end 4 → IsFailurePrinted drive old new moment source sink log
     failure_told (unscripted (unread.Script refusal)) same is told = absurd (cc told.0)
@@ -174,7 +165,6 @@ module _ {D : Type 0} (drive : Ghosts D) (old new : D) (moment : Option Moment) 
     failure_told (served l (Failed counts)) same is told =
         subst (IsFailurePrinted drive old new moment source sink) (sym same) (counts, is.1, told.1)
     failure_told (unclosed l) same is told = absurd (cc told.0)
-    failure_told (unwritten l) same is told = absurd (cc told.0)
 
     refusal_told : (end : ServedEnd) → Ends end → Said end 2 → IsRefusalPrinted source.left sink.old sink.new
     refusal_told (unscripted (unread.Script refusal)) is told = (refusal, is, told.1)
@@ -185,7 +175,6 @@ module _ {D : Type 0} (drive : Ghosts D) (old new : D) (moment : Option Moment) 
     refusal_told (served l (Short need limit)) is told = absurd (cc told.0)
     refusal_told (served l (Failed counts)) is told = absurd (cc told.0)
     refusal_told (unclosed l) is told = absurd (cc told.0)
-    refusal_told (unwritten l) is told = absurd (cc told.0)
 
     source_told : (end : ServedEnd) → Ends end → Said end 5 → IsReadFaultPrinted source.before source.now sink.old sink.new
     source_told (unscripted (unread.Script refusal)) is told = absurd (cc told.0)
@@ -196,7 +185,6 @@ module _ {D : Type 0} (drive : Ghosts D) (old new : D) (moment : Option Moment) 
     source_told (served l (Short need limit)) is told = absurd (cc told.0)
     source_told (served l (Failed counts)) is told = absurd (cc told.0)
     source_told (unclosed l) is told = absurd (cc told.0)
-    source_told (unwritten l) is told = absurd (cc told.0)
 
     check_told : (end : ServedEnd) → Ends end → Said end 3 → IsMountFaultPrinted (drive.held old) sink.old sink.new
     check_told (unscripted (unread.Script refusal)) is told = absurd (cc told.0)
@@ -207,7 +195,6 @@ module _ {D : Type 0} (drive : Ghosts D) (old new : D) (moment : Option Moment) 
     check_told (served l (Short need limit)) is told = absurd (cc told.0)
     check_told (served l (Failed counts)) is told = absurd (cc told.0)
     check_told (unclosed l) is told = absurd (cc told.0)
-    check_told (unwritten l) is told = absurd (cc told.0)
 
     memory_is : (end : ServedEnd) → log ≡ served_log end → Said end 7 → IsRefusedPrinted sink log
     memory_is (unscripted (unread.Script refusal)) same told = absurd (cc told.0)
@@ -217,8 +204,7 @@ module _ {D : Type 0} (drive : Ghosts D) (old new : D) (moment : Option Moment) 
     memory_is (served l (Closed generation)) same told = absurd (cc told.0)
     memory_is (served l (Short need limit)) same told = absurd (cc told.0)
     memory_is (served l (Failed counts)) same told = absurd (cc told.0)
-    memory_is (unclosed l) same told = subst (IsRefusedPrinted sink) (sym same) (inr told.1)
-    memory_is (unwritten l) same told = subst (IsRefusedPrinted sink) (sym same) (inl told.1)
+    memory_is (unclosed l) same told = subst (IsRefusedPrinted sink) (sym same) told.1
 
     -- how serving came to its end, and what was told of it, are what `serve` promises
     pub serve_does : (status : ℕ) (end : ServedEnd) → Ends end

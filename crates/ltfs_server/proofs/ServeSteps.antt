@@ -1,6 +1,6 @@
 -- What `serve` promises, of each thing that may come of its script.
 use Rattle.std.proofs.Common.{◌≡◌, ◌∙◌, ℕ, ◌*◌, ◌-◌, ◌^◌, ◌≤◌, List, ◌++◌, Option, Some, None, codes, refl, sym, subst, inl, inr, arith, ◌⊎◌}
-use Rattle.std.specs.Prelude.{IfSome}
+use Rattle.std.specs.Prelude.{◌≢◌, IfSome}
 use Rattle.tape_types.specs.declared.cartridges.Cartridge.{Cartridge}
 use Rattle.tape_types.specs.declared.moments.Moment.{Moment}
 use Rattle.session_script.specs.LogText.{log_text}
@@ -21,7 +21,7 @@ use Rattle.promises.specs.ServingPromise.Headline.{Closed, Failed, IsEndOf, Serv
 use Rattle.promises.specs.ServingPromise.Meanings.{cartridges}
 use Rattle.promises.specs.OrderLaws.Kept.{seen}
 use Rattle.run_laws.specs.Went.{IsRunBy}
-use Rattle.session_run.specs.Serving.{IsServedSo, IsUnserved, IsWhole, Whole, end_line, IsLookedAt}
+use Rattle.session_run.specs.Serving.{EndsSo, IsServedSo, IsUnserved, IsWhole, Whole, end_line, IsLookedAt}
 use Rattle.session_run.specs.declared.ends.ServeEnd.{ServeEnd as VolumeEnd}
 use Rattle.session_run.specs.declared.ends.ServeEnd.TheVariants as ends
 use Rattle.session_run.specs.declared.ends.Served.{Served}
@@ -32,7 +32,7 @@ use Rattle.commands.specs.BasicCommands.Runs.{IsScriptIn, Taken, Written}
 use Rattle.commands.specs.BasicCommands.Scripts.{IsUnread, unread_status, unread_text}
 use Rattle.session_run.specs.Serving.{HoldsTree}
 use Rattle.session_run.specs.Timed.{TimedView, one_moment}
-use Rattle.ltfs_server.specs.Serving.{IsServedEnd, IsServedRun, LeavesOwn, ServedEnd, end_status, served, served_log, served_status, served_text, told_whole, unclosed, unscripted, unserved, unwritten}
+use Rattle.ltfs_server.specs.Serving.{IsServedEnd, IsServedRun, LeavesOwn, ServedEnd, end_status, served, served_log, served_status, served_text, unclosed, unscripted, unserved}
 use Rattle.commands.specs.declared.basic_commands.scripts.Unread.{Unread}
 use Rattle.commands.specs.declared.basic_commands.scripts.Unread.TheVariants as unread
 use Rattle.ltfs_server.proofs.ServeClauses.{serve_does}
@@ -85,6 +85,12 @@ module _ {D : Type 0} (drive : Ghosts D) (moment : Option Moment) (source : Take
       by : IsTold wanted (unread_text why) sink status ⊎ IsTold 7 (codes "memory\n") sink status → DoesServe moment source drive old old sink status log
       by (inl told) = does why is (subst (λ w. IsTold w (unread_text why) sink status) status_is told)
       by (inr told) = does unread.NoMemory tt told
+
+  -- memory was refused before the mount, which is told
+  pub serve_refused : (old new : D) (log : Option Log) → new ≡ old → log ≡ None → drive.commands old ≤ 2 ^ 64 - 1
+      → IsTold 7 (codes "memory\n") sink status → DoesServe moment source drive old new sink status log
+  serve_refused old new log same none range told =
+      serve_unread old new log unread.NoMemory same none range tt 7 refl (inr told)
 
   -- the cartridge was looked at and not served, which is told, or that memory was refused
   pub serve_unmounted : (old mid new : D) (log : Option Log) (e : MountErr) → new ≡ mid → log ≡ None → ((script : List ScriptLine) × IsScriptIn source script)
@@ -161,21 +167,53 @@ module _ {D : Type 0} (drive : Ghosts D) (moment : Option Moment) (source : Take
   by_cause (ends.Done generation s t n) looked cause told = absurd cause
   by_cause (ends.Full need limit) looked cause told = absurd cause
 
-  -- the end is told, behind the log where there is one, or that memory was refused for that
-  by_log : (log : Option Log) (end : VolumeEnd) → IsWhole drive start now moment script log end → (wanted : ℕ) → wanted ≡ end_status end
-      → IsTold wanted (told_whole log end) sink status ⊎ IsTold 7 (codes "memory\n") sink status → DoesServe moment source drive start now sink status log
-  by_log None end whole wanted status_is (inl told) = by_cause end whole.0 whole.1 (subst (λ w. IsTold w (end_line end) sink status) status_is told)
-  by_log None end whole wanted status_is (inr told) = unserved_does errors.NoMemory (nothing_blamed (drive.held start)) tt whole.0 told
-  by_log (Some log) end whole wanted status_is (inl told) =
-      by_end drive moment source sink status script is start now log whole.limits whole.untold end whole (subst (λ w. IsTold w (log_text log ++ end_line end) sink status) status_is told)
-  by_log (Some log) end whole wanted status_is (inr told) =
-      does drive moment source sink status script is start now log whole.limits whole.untold (Some log) (unwritten log)
-      (run_of drive moment source sink status script is start now log whole.limits whole.untold whole.run) refl refl told
+  -- the end is told, or that memory was refused for that
+  by_none : (end : VolumeEnd) → IsWhole drive start now moment script None end → (wanted : ℕ) → wanted ≡ end_status end
+      → IsTold wanted (end_line end) sink status ⊎ IsTold 7 (codes "memory\n") sink status
+      → DoesServe moment source drive start now sink status None
+  by_none end whole wanted status_is (inl told) =
+      by_cause end whole.0 whole.1 (subst (λ w. IsTold w (end_line end) sink status) status_is told)
+  by_none end whole wanted status_is (inr told) =
+      unserved_does errors.NoMemory (nothing_blamed (drive.held start)) tt whole.0 told
 
--- what came of a script that was served, and was told, is what `serve` promises
-pub serve_told : {D : Type 0} (drive : Ghosts D) (moment : Option Moment) (source : Taken) (sink : Written) (status : ℕ) (script : List ScriptLine) (start new : D) (s : Served D) (result : Option Log)
-    → Whole drive start moment script s → IsScriptIn source script → new ≡ s.drive → result ≡ s.log → (wanted : ℕ) → wanted ≡ end_status s.end
-    → IsTold wanted (told_whole s.log s.end) sink status ⊎ IsTold 7 (codes "memory\n") sink status → DoesServe moment source drive start new sink status result
-serve_told drive moment source sink status script start new s result whole is back same wanted status_is told =
-    subst (λ d. DoesServe moment source drive start d sink status result) (sym back) (subst (DoesServe moment source drive start s.drive sink status) (sym same)
-    (by_log drive moment source sink status script is start s.drive s.log s.end whole wanted status_is told))
+  -- the end is told behind the log
+  by_some : (log : Log) (end : VolumeEnd) → IsWhole drive start now moment script (Some log) end
+      → IsTold (end_status end) (log_text log ++ end_line end) sink status
+      → DoesServe moment source drive start now sink status (Some log)
+  by_some log end whole told =
+      by_end drive moment source sink status script is start now log whole.limits whole.untold end whole told
+
+module _ {D K : Type 0} (drive : Ghosts D) (moment : Option Moment) (source : Taken) (sink : Written) (status : ℕ)
+    (script : List ScriptLine) (start new : D) (s : Served D K) (result : Option Log)
+    (whole : Whole drive start moment script s) (is : IsScriptIn source script) (back : new ≡ s.drive) where
+  -- what came of a script of which no call was made, and was told, is what `serve` promises
+  pub unlogged_told : s.log ≡ None → result ≡ None → (wanted : ℕ) → wanted ≡ end_status s.end
+      → IsTold wanted (end_line s.end) sink status ⊎ IsTold 7 (codes "memory\n") sink status
+      → DoesServe moment source drive start new sink status result
+  unlogged_told none same wanted status_is told =
+      subst (λ (e : D × Option Log). DoesServe moment source drive start e.0 sink status e.1)
+      (λ i. (sym back i, sym same i))
+      (by_none drive moment source sink status script is start s.drive s.end
+      (subst (λ l. IsWhole drive start s.drive moment script l s.end) none whole) wanted status_is told)
+
+  -- and of one whose calls were made
+  pub logged_told : (log : Log) → s.log ≡ Some log → result ≡ Some log
+      → IsTold (end_status s.end) (log_text log ++ end_line s.end) sink status
+      → DoesServe moment source drive start new sink status result
+  logged_told log some same told =
+      subst (λ (e : D × Option Log). DoesServe moment source drive start e.0 sink status e.1)
+      (λ i. (sym back i, sym same i))
+      (by_some drive moment source sink status script is start s.drive log s.end
+      (subst (λ l. IsWhole drive start s.drive moment script l s.end) some whole) told)
+
+-- where calls were made the cartridge was mounted
+pub was_mounted : {D K : Type 0} (drive : Ghosts D) (moment : Option Moment) (script : List ScriptLine) (start : D)
+    (s : Served D K) → Whole drive start moment script s
+    → IfSome s.log (λ log. (error : MountErr) → s.end ≢ ends.Volume error)
+was_mounted {D} drive moment script start s whole = by s.log whole
+  where
+    by : (log : Option Log) → IsWhole drive start s.drive moment script log s.end
+        → IfSome log (λ log. (error : MountErr) → s.end ≢ ends.Volume error)
+    by None whole = tt
+    by (Some log) whole = λ error bad.
+        absurd (subst (λ e. EndsSo drive start s.drive moment script log e) bad whole.ends)

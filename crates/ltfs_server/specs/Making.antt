@@ -8,6 +8,7 @@ use Rattle.tape_types.specs.declared.moments.Moment.{Moment}
 use Rattle.plain_tree.specs.Tree.{Tree}
 use Rattle.plain_tree.specs.declared.calls.Answer.{Answer}
 use Rattle.plain_tree.specs.declared.calls.Answer.TheVariants as answers
+use Rattle.session_script.specs.KeptReplies.{bytes_in}
 use Rattle.session_script.specs.Made.{made_script}
 use Rattle.session_script.specs.declared.logs.Log.{Log}
 use Rattle.session_script.specs.declared.logs.Reply.{Reply}
@@ -45,11 +46,6 @@ is_done (replies.Answer answer) = not (is_refused answer)
 is_done (replies.Full need limit) = false
 is_done (replies.Fault counts) = false
 is_done replies.NoMemory = false
-
--- how many bytes it tells
-abbrev pub bytes_in : Reply → ℕ
-bytes_in (replies.Answer (answers.Got bytes)) = length bytes
-bytes_in reply = 0
 
 abbrev pub done_count : List Reply → ℕ
 done_count told = count_by is_done told

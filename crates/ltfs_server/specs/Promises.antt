@@ -48,7 +48,7 @@ pub record DoesServe {D : Type 0} (moment : Option Moment) (source : Taken) (dri
   pub only_drive : status ≡ 4 → IsFailurePrinted drive old new moment source sink log
   pub only_read : status ≡ 5 → IsReadFaultPrinted source.before source.now sink.old sink.new
   pub only_write : status ≡ 6 → Rose sink.before sink.now
-  -- the log may stand before the line that tells it
+  -- the log stands before the line that tells it
   pub memory : status ≡ 7 → IsRefusedPrinted sink log
   -- a close without space is told by its numbers, behind the log
   pub only_full : status ≡ 8 → IsShortPrinted drive old new moment source sink log

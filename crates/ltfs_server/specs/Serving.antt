@@ -47,27 +47,24 @@ told_whole (Some log) end = log_text log ++ end_line end
 -- ---- what it comes to
 
 -- There was no script; the cartridge wasn't mounted, or memory was refused before the first call; the script was
--- served, and the volume closed so; memory was refused to the close; or to the text of all that.
+-- served, and the volume closed so; or memory was refused to the close.
 pub data ServedEnd : Type 0 where
   unscripted : Unread → ServedEnd
   unserved : MountErr → ServedEnd
   served : Log → ServeEnd → ServedEnd
   unclosed : Log → ServedEnd
-  unwritten : Log → ServedEnd
 
 abbrev pub served_status : ServedEnd → ℕ
 served_status (unscripted why) = unread_status why
 served_status (unserved error) = mount_status error
 served_status (served log end) = status_of end
 served_status (unclosed log) = 7
-served_status (unwritten log) = 7
 
 abbrev pub served_text : ServedEnd → List ℕ
 served_text (unscripted why) = unread_text why
 served_text (unserved error) = mount_text error
 served_text (served log end) = serve_text log end
 served_text (unclosed log) = log_text log ++ codes "memory\n"
-served_text (unwritten log) = codes "memory\n"
 
 -- the log, wherever the calls were run
 abbrev pub served_log : ServedEnd → Option Log
@@ -75,7 +72,6 @@ served_log (unscripted why) = None
 served_log (unserved error) = None
 served_log (served log end) = Some log
 served_log (unclosed log) = Some log
-served_log (unwritten log) = Some log
 
 -- a close that is done leaves the run's own indexes at the top of the data partition
 abbrev pub LeavesOwn : {D : Type 0} → Ghosts D → (old new : D) → Option Moment → ServeEnd → List ScriptLine → Log
@@ -111,7 +107,6 @@ module _ {D : Type 0} (drive : Ghosts D) (old new : D) (moment : Option Moment) 
       × IfSome (drive.held old) (λ c. Blames error c) × AreCounts (drive.faults old) (drive.faults new) error
   IsServedEnd (served log end) = HoldsTree (drive.held old) × IsServedTo end log
   IsServedEnd (unclosed log) = IsServedRun log
-  IsServedEnd (unwritten log) = IsServedRun log
 
   -- there is a log of such a run, and it and the line of its end were printed
   abbrev pub IsEndPrinted : Written → ServeEnd → Option Log → Type 0
@@ -132,8 +127,7 @@ module _ {D : Type 0} (drive : Ghosts D) (old new : D) (moment : Option Moment) 
   IsFailurePrinted sink (Some log) =
       (counts : Twin) × IsServedTo (Failed counts) log × Appends sink.old sink.new (serve_text log (Failed counts))
 
--- that memory was refused was printed, and maybe the log before it
+-- that memory was refused was printed, behind the log, where there is one
 abbrev pub IsRefusedPrinted : Written → Option Log → Type 0
 IsRefusedPrinted sink None = Appends sink.old sink.new (codes "memory\n")
-IsRefusedPrinted sink (Some log) =
-    Appends sink.old sink.new (codes "memory\n") ⊎ Appends sink.old sink.new (log_text log ++ codes "memory\n")
+IsRefusedPrinted sink (Some log) = Appends sink.old sink.new (log_text log ++ codes "memory\n")

@@ -13,8 +13,8 @@ ghost use Rattle.promises.specs.OrderLaws.Kept.{seen};
 ghost use Rattle.commands.specs.BasicCommands.Runs.{taken, written};
 ghost use Rattle.ltfs_server.specs.Sentence.{SentenceHolds, to_serve};
 
+use crate::ended::Ended;
 use crate::server::run;
-use commands::basic_commands::Ended;
 use fenced_drive::{Fenced, Order, Unowned};
 use std::alloc::Global;
 use std::sync::Wait;
@@ -30,7 +30,7 @@ pub fn serve_fenced<
     D: Unowned + Send,
     O: Order + Send,
     S: Source,
-    K: Sink,
+    K: Sink + Send,
     C: Clock + Send,
     G: Gate + Sync,
 >(
@@ -39,10 +39,10 @@ pub fn serve_fenced<
     words: &Vec<String>,
     drive: Fenced<D, O>,
     script: &mut S,
-    out: &mut K,
+    out: K,
     clock: C,
     gate: &G,
-) -> Ended<Fenced<D, O>>
+) -> Ended<Fenced<D, O>, K>
     requires words { (at : Option Instant) × IsServeWords words.now.items at
         × (one_moment at (C.one clock) ≡ O.moment) }
     requires spelled { (text : List ℕ) × (S.left script.old ≡ Some text) × (script_of text ≡ Ok O.script) }
@@ -50,7 +50,7 @@ pub fn serve_fenced<
         × CanTell (λ c. Stands c O.facts O.tree generation × IsSound cartridges c) (D.commands drive.inner)
         (seen ⟦<Fenced<D, O> as Drive>⟧ drive) }
     ensures { SentenceHolds to_serve O.moment (taken S.Source script.old script.new) ⟦<Fenced<D, O> as Drive>⟧ drive
-        result.drive (written K.Sink out.old out.new) result.status result.log }
+        result.drive (written K.Sink out result.out) result.status result.log }
 {
     run(rt, alloc, words, drive, script, out, clock, gate)
 }

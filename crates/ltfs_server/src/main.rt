@@ -1,6 +1,7 @@
 // The volume server's program.
 #![tactic(auto)]
 
+mod ended;
 mod fenced;
 mod laws;
 mod making;
@@ -26,7 +27,7 @@ fn main(rt: HostRuntime) -> ExitCode {
         return starved(&rt);
     };
     let mut source = ReaderSource::new(Patient::new(rt.stdin(), &rt));
-    let mut sink = WriterSink::new(Patient::new(rt.stdout(), &rt));
+    let sink = WriterSink::new(Patient::new(rt.stdout(), &rt));
     let Ok(host) = rt.clone() else {
         return starved(&rt);
     };
@@ -36,7 +37,7 @@ fn main(rt: HostRuntime) -> ExitCode {
         &words,
         drive,
         &mut source,
-        &mut sink,
+        sink,
         SystemClock::new(host),
         &OpenGate,
     );
@@ -50,7 +51,7 @@ fn starved(rt: &HostRuntime) -> ExitCode {
 }
 
 /// The drive over the folder of the second word, with the room that it needs; without one, over a name that no folder
-/// has.
+/// has. A folder that a command is to have alone is claimed at once, before a script is read.
 fn drive_of(
     rt: &HostRuntime,
     alloc: Global,
@@ -60,7 +61,12 @@ fn drive_of(
         Some(folder) => folder.clone()?,
         None => String::new(alloc),
     };
-    FileDrive::new(rt.clone()?, folder, claim_of(words))
+    let claim = claim_of(words);
+    let mut drive = FileDrive::new(rt.clone()?, folder, claim)?;
+    if let Claim::Alone = claim {
+        drive.claim_now();
+    }
+    Ok(drive)
 }
 
 /// How the folder is claimed. Commands that write have it alone; those that only read may have it side by side.

@@ -19,9 +19,10 @@ ghost use Rattle.tape_drive.specs.Crashes.{AllowsAll};
 ghost use Rattle.promises.specs.CrashLaws.May.{MayServe};
 ghost use Rattle.ltfs_server.specs.Allowed.{MayServeLeft};
 
+use crate::ended::{Ended, tell_alone, with_sink};
 use crate::making::run_make;
 use crate::serves::run_serve;
-use commands::basic_commands::{Ended, Status, run_format, run_label, run_list, run_plain, tell};
+use commands::basic_commands::{Status, run_format, run_label, run_list, run_plain};
 use commands::command_line::{Command, WordsErr, read_words};
 use generation_view::view_commands::{run_generations, run_view};
 use session_run::Host;
@@ -36,7 +37,7 @@ pub fn run<
     R: Threads + Wait + Sync,
     D: Drive + Send,
     S: Source,
-    K: Sink,
+    K: Sink + Send,
     C: Clock + Send,
     G: Gate + Sync,
 >(
@@ -45,10 +46,10 @@ pub fn run<
     words: &Vec<String>,
     drive: D,
     script: &mut S,
-    out: &mut K,
+    out: K,
     clock: C,
     gate: &G,
-) -> Ended<D>
+) -> Ended<D, K>
     // Where the cartridge is to be mounted, and the drive tells it, its notes are honest.
     requires honest { AskToMount words.now.items → IfSome (D.held drive) HasHonestNotes }
     // A drive that tells its cartridge has an owner, who allows what a crash may leave of it. For `format` everything
@@ -60,34 +61,35 @@ pub fn run<
         → MayServe D.Drive (made_script count) (one_moment at (C.one clock)) drive }
     // `plain` runs the script that is left in the source on a plain tree, prints the log, and leaves the drive alone.
     ensures plain { (at : Option Instant) → IsPlainWords words.now.items at
-        → DoesPlain at (C.gives clock) (taken S.Source script.old script.new) (written K.Sink out.old out.new)
+        → DoesPlain at (C.gives clock) (taken S.Source script.old script.new) (written K.Sink out result.out)
         drive result.drive result.status result.log }
     // `label` prints the labels of the cartridge in the drive, or which check fails, and only looks at it.
     ensures label { IsLabel words.now.items
-        → DoesLabel D.Drive drive result.drive (written K.Sink out.old out.new) result.status result.log }
+        → DoesLabel D.Drive drive result.drive (written K.Sink out result.out) result.status result.log }
     // `list` prints the tree as which the cartridge reads, and with `--all` all of it, or which check fails, and only
     // looks at the cartridge.
     ensures list { (all : Bool) → IsListWords words.now.items all
-        → DoesList all D.Drive drive result.drive (written K.Sink out.old out.new) result.status result.log }
+        → DoesList all D.Drive drive result.drive (written K.Sink out result.out) result.status result.log }
     // `generations` prints the generations that the data partition of the cartridge still has, or why none, and `view`
     // the tree of one, or a file of it; both only look at the cartridge.
     ensures generations { IsGenerations words.now.items
-        → DoesGenerations D.Drive drive result.drive (written K.Sink out.old out.new) result.status result.log }
+        → DoesGenerations D.Drive drive result.drive (written K.Sink out result.out) result.status result.log }
     ensures view { (asked : ViewWords) → IsViewWords words.now.items asked
-        → DoesView asked D.Drive drive result.drive (written K.Sink out.old out.new) result.status result.log }
+        → DoesView asked D.Drive drive result.drive (written K.Sink out result.out) result.status result.log }
     // `format` makes the cartridge in the drive the empty volume of the words, or tells why not.
     ensures format { (asked : FormatWords) → IsFormatWords words.now.items asked
-        → DoesFormat asked (C.gives clock) D.Drive drive result.drive (written K.Sink out.old out.new)
+        → DoesFormat asked (C.gives clock) D.Drive drive result.drive (written K.Sink out result.out)
         result.status result.log }
-    // `serve` runs the script that is left in the source on the volume of the cartridge in the drive, closes the
-    // volume, and prints the log and how it was closed, or tells why not.
+    // `serve` runs the script that is left in the source on the volume of the cartridge in the drive, prints each line
+    // of the log when it and all before it are decided, closes the volume, and prints how it was closed, or tells why
+    // not.
     ensures serve { (at : Option Instant) → IsServeWords words.now.items at
         → DoesServe (one_moment at (C.one clock)) (taken S.Source script.old script.new) D.Drive drive result.drive
-        (written K.Sink out.old out.new) result.status result.log }
+        (written K.Sink out result.out) result.status result.log }
     // `make` runs a script that is made for a number on the volume of the cartridge in the drive, closes the volume,
     // and prints a summary, or tells why not.
     ensures make { (count : ℕ) (at : Option Instant) → IsMakeWords words.now.items count at
-        → DoesMake (one_moment at (C.one clock)) count D.Drive drive result.drive (written K.Sink out.old out.new)
+        → DoesMake (one_moment at (C.one clock)) count D.Drive drive result.drive (written K.Sink out result.out)
         result.status result.log }
     // The headline, for the words of `serve` and of `make`.
     ensures headline { (asked : Asked) (moment : Option Instant) → Asks (record {
@@ -97,10 +99,10 @@ pub fn run<
       source = taken S.Source script.old script.new;
     }) asked moment
         → SentenceHolds asked moment (taken S.Source script.old script.new) D.Drive drive result.drive
-        (written K.Sink out.old out.new) result.status result.log }
+        (written K.Sink out result.out) result.status result.log }
     // Words of no form are told, and nothing is done.
     ensures no_form { HasNoForm words.now.items
-        → RefusesWords (written K.Sink out.old out.new) drive result.drive result.status result.log }
+        → RefusesWords (written K.Sink out result.out) drive result.drive result.status result.log }
     // No other command than `plain` and `serve` reads the source.
     ensures unread { ¬ (IsPlain words.now.items) → ¬ (IsServe words.now.items)
         → TakesNothing (taken S.Source script.old script.new) }
@@ -113,9 +115,14 @@ pub fn run<
       one = C.one clock;
       source = taken S.Source script.old script.new;
     }) D.Drive drive result.drive e
-        × EndsAs e (written K.Sink out.old out.new) result.status result.log }
+        × EndsAs e (written K.Sink out result.out) result.status result.log }
 {
-    let host = Host { rt, alloc, gate };
+    let host = Host {
+        rt,
+        alloc,
+        gate,
+        spares: true,
+    };
     run_asked(&host, words, drive, script, out, clock)
 }
 
@@ -124,7 +131,7 @@ fn run_asked<
     R: Threads + Wait + Sync,
     D: Drive + Send,
     S: Source,
-    K: Sink,
+    K: Sink + Send,
     C: Clock + Send,
     G: Gate + Sync,
 >(
@@ -132,9 +139,9 @@ fn run_asked<
     words: &Vec<String>,
     drive: D,
     script: &mut S,
-    out: &mut K,
+    out: K,
     clock: C,
-) -> Ended<D>
+) -> Ended<D, K>
     requires honest { AskToMount words.now.items → IfSome (D.held drive) HasHonestNotes }
     requires formats { (asked : FormatWords) → IsFormatWords words.now.items asked → AllowsAll D.allows }
     requires serves { (at : Option Instant) → IsServeWords words.now.items at
@@ -142,21 +149,28 @@ fn run_asked<
     requires makes { (count : ℕ) (at : Option Instant) → IsMakeWords words.now.items count at
         → MayServe D.Drive (made_script count) (one_moment at (C.one clock)) drive }
     ensures { DoesAsked words.now.items (C.gives clock) (C.one clock) (taken S.Source script.old script.new)
-        (written K.Sink out.old out.new) D.Drive drive result.drive result.status result.log }
+        (written K.Sink out result.out) D.Drive drive result.drive result.status result.log }
 {
     // The number of commands is in its range.
     let _commands_are_in_range = drive.commands();
     let alloc = host.alloc;
+    let mut out = out;
     match read_words(alloc, words.as_slice()) {
-        Ok(Command::Plain { at }) => run_plain(alloc, at, drive, script, out, clock),
-        Ok(Command::Label) => run_label(alloc, drive, out),
-        Ok(Command::List { all }) => run_list(alloc, all, drive, out),
-        Ok(Command::Generations) => run_generations(alloc, drive, out),
-        Ok(Command::View(asked)) => run_view(alloc, asked, drive, out),
-        Ok(Command::Format(asked)) => run_format(alloc, asked, drive, out, clock),
+        Ok(Command::Plain { at }) => {
+            let told = run_plain(alloc, at, drive, script, &mut out, clock);
+            with_sink(told, out)
+        }
+        Ok(Command::Label) => with_sink(run_label(alloc, drive, &mut out), out),
+        Ok(Command::List { all }) => with_sink(run_list(alloc, all, drive, &mut out), out),
+        Ok(Command::Generations) => with_sink(run_generations(alloc, drive, &mut out), out),
+        Ok(Command::View(asked)) => with_sink(run_view(alloc, asked, drive, &mut out), out),
+        Ok(Command::Format(asked)) => {
+            let told = run_format(alloc, asked, drive, &mut out, clock);
+            with_sink(told, out)
+        }
         Ok(Command::Serve { at }) => run_serve(host, at, drive, script, out, clock),
         Ok(Command::Make { count, at }) => run_make(host, count, at, drive, out, clock),
-        Err(WordsErr::Form) => tell(out, b"words\n", Status::Words, None, drive),
-        Err(WordsErr::NoMemory) => tell(out, b"memory\n", Status::NoMemory, None, drive),
+        Err(WordsErr::Form) => tell_alone(out, b"words\n", Status::Words, drive),
+        Err(WordsErr::NoMemory) => tell_alone(out, b"memory\n", Status::NoMemory, drive),
     }
 }

@@ -14,8 +14,8 @@ ghost use Rattle.ltfs_server.specs.Again.{HoldsLog, IsReadyAgain, cut_within, im
 ghost use Rattle.ltfs_server.specs.Runs.{RunsSo};
 ghost use Rattle.ltfs_server.specs.Sentence.{to_serve};
 
+use crate::ended::Ended;
 use crate::server::run;
-use commands::basic_commands::Ended;
 use session_run::Host;
 use std::alloc::Global;
 use std::sync::Wait;
@@ -26,13 +26,13 @@ use tape_types::{Cartridge, List, NoMemory};
 
 /// What two runs have left, and what the crash between them left.
 #[derive(Drop)]
-pub struct Twice {
+pub struct Twice<K> {
     /// How the first run ended, with its drive.
-    pub first: Ended<MemDrive>,
+    pub first: Ended<MemDrive, K>,
     /// What a crash left of that drive's cartridge.
     pub image: Cartridge,
     /// How the second run ended, over a new drive with that image.
-    pub second: Ended<MemDrive>,
+    pub second: Ended<MemDrive, K>,
 }
 
 /// Serves a script, takes what a crash then leaves by two cuts, and serves a second script on that, with the same words
@@ -43,7 +43,7 @@ pub struct Twice {
 pub fn crash_then_run<
     R: Threads + Wait + Sync,
     S: Source,
-    K: Sink,
+    K: Sink + Send + Drop,
     C: Clock + Send,
     G: Gate + Sync,
 >(
@@ -54,13 +54,13 @@ pub fn crash_then_run<
     ip: Cut,
     dp: Cut,
     script: &mut S,
-    out: &mut K,
+    out: K,
     clock: C,
     gate: &G,
     script2: &mut S,
-    out2: &mut K,
+    out2: K,
     clock2: C,
-) -> Result<Twice, NoMemory>
+) -> Result<Twice<K>, NoMemory>
     requires words { IsServe words.now.items }
     // The cartridge stands for a tree and is sound, and nothing is pending.
     requires ready { (facts : Carried) × (tree : Tree) × (generation : ℕ) × IsReady facts tree generation drive }
@@ -70,7 +70,7 @@ pub fn crash_then_run<
       gives = C.gives clock;
       one = C.one clock;
       source = taken S.Source script.old script.new;
-    }) ⟦<MemDrive as Drive>⟧ drive t.first.drive (written K.Sink out.old out.new) t.first.status t.first.log) }
+    }) ⟦<MemDrive as Drive>⟧ drive t.first.drive (written K.Sink out t.first.out) t.first.status t.first.log) }
     // The image is what a crash leaves of the first run's drive by the two cuts.
     ensures image { IfOk result (λ t. t.image ≡ image_by ip dp t.first.drive) }
     // Where the first run left no log, the image is the cartridge of the drive that was handed in.
@@ -87,7 +87,7 @@ pub fn crash_then_run<
       gives = C.gives clock2;
       one = C.one clock2;
       source = taken S.Source script2.old script2.new;
-    }) ⟦<MemDrive as Drive>⟧ (made t.image drive.limits []) t.second.drive (written K.Sink out2.old out2.new)
+    }) ⟦<MemDrive as Drive>⟧ (made t.image drive.limits []) t.second.drive (written K.Sink out2 t.second.out)
         t.second.status t.second.log) }
     // That drive is ready for the tree for which the image stands, so the second run is spoken of as the first one is.
     ensures again { IfOk result (λ t. (facts : Carried) (tree : Tree) (generation : ℕ)
@@ -95,7 +95,12 @@ pub fn crash_then_run<
         → IsReadyAgain to_serve (taken S.Source script.old script.new) facts tree generation t.first.log
         (made t.image drive.limits [])) }
 {
-    let host = Host { rt, alloc, gate };
+    let host = Host {
+        rt,
+        alloc,
+        gate,
+        spares: true,
+    };
     let first = run_once(&host, words, drive, script, out, clock);
     let image = crash_within(&first.drive, ip, dp)?;
     let next = drive_after(alloc, &first.drive, ip, dp)?;
@@ -108,23 +113,28 @@ pub fn crash_then_run<
 }
 
 /// All that `run` promises, as one clause, over a drive in memory.
-fn run_once<R: Threads + Wait + Sync, S: Source, K: Sink, C: Clock + Send, G: Gate + Sync>(
+fn run_once<R: Threads + Wait + Sync, S: Source, K: Sink + Send, C: Clock + Send, G: Gate + Sync>(
     host: &Host<'_, R, G>,
     words: &Vec<String>,
     drive: MemDrive,
     script: &mut S,
-    out: &mut K,
+    out: K,
     clock: C,
-) -> Ended<MemDrive>
+) -> Ended<MemDrive, K>
     requires honest { HasHonestNotes drive.held }
     ensures { RunsSo (record {
       words = words.now.items;
       gives = C.gives clock;
       one = C.one clock;
       source = taken S.Source script.old script.new;
-    }) ⟦<MemDrive as Drive>⟧ drive result.drive (written K.Sink out.old out.new) result.status result.log }
+    }) ⟦<MemDrive as Drive>⟧ drive result.drive (written K.Sink out result.out) result.status result.log }
 {
-    let Host { rt, alloc, gate } = *host;
+    let Host {
+        rt,
+        alloc,
+        gate,
+        spares: _,
+    } = *host;
     run(rt, alloc, words, drive, script, out, clock, gate)
 }
 
