@@ -10,7 +10,9 @@ the third if nothing is said, up to the first of the three looks at files with w
 - The link that the folder is served through is made to lead to another cartridge, or the folder gets another name and
   an empty one its name. Then one folder has all that was told as synchronised, and the other one is as it was.
 - A file is removed, exchanged for another one with the same bytes, or cut. Then the run ends with 4, or it ends with 0
-  and all is found.
+  and all is found. None is cut in front of a write: between that and the look at the file's length nothing is seen.
+- All three are exchanged for those of a cartridge that is one sync further. Then the run ends with 4 and leaves that as
+  it is, or it ends with 0 and all is found.
 """
 import argparse
 import os
@@ -26,6 +28,8 @@ TIME = "2024-01-02T03:04:05.000000000Z"
 UUID = "30a91a08-daae-48d1-ae75-69804e61d2ea"
 NAMES = "fg"
 SCRIPT = "".join(f"1 create /{name}\n1 write /{name} 0 fill:61:5000\n1 sync\n" for name in NAMES)
+# Bytes that the other cartridge has in place of these.
+OTHER_SCRIPT = SCRIPT.replace(":61:", ":62:")
 FILES = ("ip.img", "dp.img", "cm.img")
 FAULT = re.compile(r"drive (\d+) (\d+)")
 SECONDS = 60
@@ -40,6 +44,7 @@ class Trial:
         self.program, self.library, self.where = program, library, where
         self.served, self.other, self.moved = where / "served", where / "other", where / "moved"
         self.link, self.told, self.formatted = where / "link", where / "told", where / "formatted"
+        self.further = where / "further"
         self.formatted.mkdir()
         words = [program, "format", self.formatted, "TAPE01", UUID, "--block", "4096", "--at", TIME]
         subprocess.run(words, stdout=subprocess.DEVNULL, check=True, timeout=SECONDS)
@@ -53,12 +58,12 @@ class Trial:
         self.link.symlink_to(self.served)
         self.told.unlink(missing_ok=True)
 
-    def serve(self, folder, call, change):
+    def serve(self, folder, call, change, calls=SCRIPT):
         """Serves a folder, and calls `change` while the serving is held in front of a call."""
         env = {"PATH": os.environ["PATH"], "LD_PRELOAD": self.library, "FOLDER": str(folder), "TOLD": str(self.told),
                "CALL": str(call), "HOW": "hold"}
         with tempfile.TemporaryFile("w+") as script, tempfile.TemporaryFile("w+") as said:
-            script.write(SCRIPT)
+            script.write(calls)
             script.seek(0)
             run = subprocess.Popen([self.program, "serve", folder, "--at", TIME], stdin=script, stdout=said,
                                    stderr=subprocess.DEVNULL, env=env)
@@ -72,6 +77,12 @@ class Trial:
                 run.wait()
             said.seek(0)
             return status, said.read().splitlines()
+
+    def go_further(self, call):
+        """Makes the cartridge that is one sync further: as a serving has left it in front of a call."""
+        self.begin()
+        self.serve(self.served, call, lambda: shutil.copytree(self.served, self.further), OTHER_SCRIPT)
+        return set(self.listed(self.further) or ()) == {f"/{NAMES[0]}"}
 
     def listed(self, folder):
         """The lengths of the files of a volume by their names, or None where it can't be listed."""
@@ -115,6 +126,12 @@ def exchange(trial, name):
     (trial.where / "copy").rename(trial.served / name)
 
 
+def exchange_all(trial):
+    for name in FILES:
+        shutil.copy(trial.further / name, trial.where / "copy")
+        (trial.where / "copy").rename(trial.served / name)
+
+
 def cut(trial, name):
     os.truncate(trial.served / name, (trial.served / name).stat().st_size // 2)
 
@@ -143,10 +160,21 @@ def try_files(trial, call, change, name):
     return trial.wrong_end(status, lines)
 
 
-def all_tries(trial, call):
+def try_cartridges(trial, call):
+    """What is wrong where another cartridge comes in place of the one that is served, in front of a call."""
+    trial.begin()
+    status, lines = trial.serve(trial.served, call, lambda: exchange_all(trial))
+    if status == 0:
+        return trial.wrong_files(trial.served, lines)
+    changed = [name for name, text in files_of(trial.further).items() if files_of(trial.served)[name] != text]
+    return f"{changed} of the other cartridge have changed" if changed else trial.wrong_end(status, lines)
+
+
+def all_tries(trial, call, word):
     yield "the link leads elsewhere", try_names(trial, call, True)
     yield "another folder has the name", try_names(trial, call, False)
-    for change in (remove, exchange, cut):
+    yield "another cartridge comes", try_cartridges(trial, call)
+    for change in (remove, exchange, cut) if word != "w" else (remove, exchange):
         for name in FILES:
             yield f"{change.__name__} {name}", try_files(trial, call, change, name)
 
@@ -165,9 +193,12 @@ def main():
         calls = trial.told.read_text()
         print(f"{len(calls)} calls: {calls}")
         wrong += status != 0
+        if not trial.go_further(len(calls) * 2 // 5):
+            wrong += 1
+            print("the other cartridge has not the first file alone")
         last = len(calls) - len(FILES) + 1
         for call in sorted({*range(1, last, asked.every), last}):
-            for what, fault in all_tries(trial, call):
+            for what, fault in all_tries(trial, call, calls[call - 1]):
                 tried += 1
                 if fault:
                     wrong += 1

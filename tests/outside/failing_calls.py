@@ -127,7 +127,7 @@ def try_streams(trial, command):
         for call, letter in enumerate(calls, 1):
             wanted, came = usual, trial.start(command, call, how, True)
             if how == "fail":
-                wanted = (5, ["source 0 1"]) if letter == "i" else (6, [])
+                wanted = (5, ["source 0 1"]) if letter == "i" else (6, usual[1][:calls[: call - 1].count("p")])
             if came != wanted:
                 wrong += 1
                 print(f"{command}, {how} in call {call} ({letter}): it ends with {came[0]}: {came[1][-1:]}")

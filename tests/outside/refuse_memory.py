@@ -10,7 +10,8 @@ of its own over a folder that was just formatted, and
 
 - the run ends with one of the statuses 0, 4, 7 and 8, with the line that belongs to it;
 - each reply is that of a plain tree, or tells a fault or want of memory;
-- where nothing but how it ended is printed, and no thread was made yet, the folder is as it was, byte by byte;
+- where nothing but how it ended is printed, the folder is as it was, byte by byte, and of several sessions no thread
+  was made yet: later that line stands behind the whole log, since printing takes no memory;
 - `list` tells of each session none of its file, an empty one or the whole one, and the whole one where the session
   was told that it was synchronised;
 - where one session gets each reply as if nothing was refused, the head makes the steps of a run with nothing refused, and
@@ -141,9 +142,13 @@ class Trial:
         count, self.alone = map(int, self.told.read_text().split())
         return count, self.alone
 
+    def is_one(self):
+        """Whether one session alone is served, for which no thread is made."""
+        return self.sessions == 1 and not self.made
+
     def wrong_steps(self, lines):
         """What is wrong with the steps of a run of one session, if each of its replies is right."""
-        if self.sessions != 1 or [line.split(" ", 2)[2] for line in lines[:-1]] != replies(1):
+        if not self.is_one() or [line.split(" ", 2)[2] for line in lines[:-1]] != replies(1):
             return None
         more = steps_of(lines) - self.steps
         self.unkept += more
@@ -158,8 +163,10 @@ class Trial:
             return end, "it ends so"
         if not lines:
             end = f"{status} {' '.join(last.split(' ')[:3])}" if status == 0 else f"{end} alone"
-        if status and not lines and refused <= self.alone:
+        if status and not lines and (refused <= self.alone or self.is_one()):
             return end, None if same(self.empty, self.used) else "the folder has changed"
+        if not lines and not self.made:
+            return end, "the log is missing"
         fault, synced = (None, set()) if self.made else wrong_log(lines, self.sessions)
         if fault:
             return end, fault
